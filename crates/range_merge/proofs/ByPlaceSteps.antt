@@ -22,6 +22,7 @@ use Rattle.range_merge.specs.Runs.{weight}
 use Rattle.range_merge.specs.Singly.{table_from, IsLong, IsCountStep, AreFourCounted}
 use Rattle.range_merge.specs.Steps.{FirstsStand, one_of_run, takes}
 use Rattle.range_merge.proofs.SinglySteps.{Reads, Reads-start, Reads-more, Reads-made, Reads-cost, Reads-looked, takes-at}
+use Rattle.range_merge.proofs.EvenSteps.{FirstsStand-take, drop-of_take}
 use Rattle.range_merge.proofs.Relative.{Progress-from}
 
 -- one if it is taken
@@ -55,30 +56,6 @@ module _ {K : Type 0} where
   length-one Equal l r lefts rights = length-take-le 1 l lefts
   length-one Greater l r lefts rights = length-take-le 1 r rights
 
-  -- the first items of what is behind in a window, and of the whole
-  FirstsStand-take : (order : K → K → Ordering) (m n : ℕ) (l r : List K) (how : Ordering) → FirstsStand order (take m l) (take n r) (Some how) → FirstsStand order l r (Some how)
-  FirstsStand-take order zero n l r how h = absurd (omega (arith, h.0))
-  FirstsStand-take order (suc m) zero l r how h = absurd (omega (arith, h.1))
-  FirstsStand-take order (suc m) (suc n) [] r how h = absurd (omega (arith, h.0))
-  FirstsStand-take order (suc m) (suc n) (x ∷ l) [] how h = absurd (omega (arith, h.1))
-  FirstsStand-take order (suc m) (suc n) (x ∷ l) (y ∷ r) how h = (omega arith, omega arith, h.2)
-
-  take-none : (n : ℕ) → take {A = K} n [] ≡ []
-  take-none zero = refl
-  take-none (suc n) = refl
-
-  drop-of_take : (u n : ℕ) (xs : List K) → drop u (take n xs) ≡ take (n - u) (drop u xs)
-  drop-of_take zero n xs =
-      let same : n ≡ n - 0 = omega arith in
-      ap (λ k. take k xs) same
-  drop-of_take (suc u) zero xs =
-      let same : 0 ≡ 0 - suc u = omega arith in
-      ap (λ k. take k (drop (suc u) xs)) same
-  drop-of_take (suc u) (suc n) [] = sym (take-none (suc n - suc u))
-  drop-of_take (suc u) (suc n) (x ∷ xs) =
-      let same : n - u ≡ suc n - suc u = omega arith in
-      drop-of_take u n xs ∙ ap (λ k. take k (drop u xs)) same
-
   rest-window : (n i u : ℕ) (xs : List K) → drop u (take n (drop i xs)) ≡ take (n - u) (drop (i + u) xs)
   rest-window n i u xs = drop-of_take u n (drop i xs) ∙ ap (take (n - u)) (drop-drop u i xs)
 
@@ -93,22 +70,22 @@ module _ {K : Type 0} (order : K → K → Ordering) (f : Table) (a b : List K) 
   pub record Counts (count0 m i1 j1 i j k count : ℕ) (next : Ordering) : Type 0 where
     pub out : List K
     pub len : length out ≡ k
-    pub reads : Reads (λ x y. x ≡ y) order f a b count0 m i1 j1 i j out count next
+    pub reads : Reads (λ x y. x ≡ y) order f a b 0 0 count0 m i1 j1 i j out count next
 
   -- nothing was read yet
   pub Counts-start : (count : ℕ) (next : Ordering) → FirstsStand order a b (Some next) → Counts count 0 0 0 0 0 0 count next
-  Counts-start count next stands = record { out = []; len = refl; reads = Reads-start (λ x y. x ≡ y) order f a b count next stands }
+  Counts-start count next stands = record { out = []; len = refl; reads = Reads-start (λ x y. x ≡ y) order f a b 0 0 count next stands }
 
   pub Counts-counted : {count0 m i1 j1 i j k count : ℕ} {next : Ordering} → Counts count0 m i1 j1 i j k count next → IsCounted order f a b i j k next
   Counts-counted w = record { out = w.out; len = w.len; read = w.reads.read }
 
   pub Counts-cost : {count0 m i1 j1 i j k count : ℕ} {next : Ordering} → m ≤ 4 → Counts count0 m i1 j1 i j k count next
       → count + 2 * weight order (drop i a) (drop j b) ≤ count0 + 2 * weight order a b + 6
-  Counts-cost few w = Reads-cost (λ x y. x ≡ y) order f a b few w.reads
+  Counts-cost few w = Reads-cost (λ x y. x ≡ y) order f a b 0 0 few w.reads
 
   pub Counts-made : {count0 m i1 j1 i j k count : ℕ} {next : Ordering}
       → m ≤ 4 → length a + length b < 2 ^ 64 → count0 < 2 ^ 127 → Counts count0 m i1 j1 i j k count next → count + 8 < 2 ^ 128 - 1
-  Counts-made few fits made w = Reads-made (λ x y. x ≡ y) order f a b few (omega (arith, fits)) made w.reads
+  Counts-made few fits made w = Reads-made (λ x y. x ≡ y) order f a b 0 0 few (omega (arith, fits)) made w.reads
 
   -- a window begins at a look
   pub Counts-window : {count0 i j k count : ℕ} {next : Ordering} → Counts count0 0 i j i j k count next
@@ -135,7 +112,7 @@ module _ {K : Type 0} (order : K → K → Ordering) (f : Table) (a b : List K) 
         record {
           out = w.out ++ items_if wanted firsts;
           len = omega (arith, length-append w.out (items_if wanted firsts), w.len, many, same, step.taken);
-          reads = Reads-more (λ x y. x ≡ y) order f a b o a_ascends b_ascends few w.reads (omega (arith, step.lefts)) (omega (arith, step.rights)) (themselves (items_if wanted firsts) w.out)
+          reads = Reads-more (λ x y. x ≡ y) order f a b 0 0 o a_ascends b_ascends few w.reads (omega (arith, step.lefts)) (omega (arith, step.rights)) (themselves (items_if wanted firsts) w.out)
               (FirstsStand-window order n n' i j u' v' a b next step.stands) counted;
         }
 
@@ -157,7 +134,7 @@ module _ {K : Type 0} (order : K → K → Ordering) (f : Table) (a b : List K) 
     Counts-looked i j u v u' v' w ends = record {
       out = w.out;
       len = w.len;
-      reads = Reads-looked (λ x y. x ≡ y) order f a b o a_ascends b_ascends i j u v u' v' w.reads ends;
+      reads = Reads-looked (λ x y. x ≡ y) order f a b 0 0 o a_ascends b_ascends i j u v u' v' w.reads ends;
     }
 
 -- what was counted from where the sides stand, with what was counted before

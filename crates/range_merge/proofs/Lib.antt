@@ -35,6 +35,7 @@ pub mod Apart
 pub mod Filled
 pub mod ShortRuns
 pub mod SinglySteps
+pub mod EvenSteps
 pub mod Rounds
 pub mod ReadInto
 pub mod Relative

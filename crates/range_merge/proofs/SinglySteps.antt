@@ -21,7 +21,7 @@ use Rattle.range_merge.specs.Copies.{AreCopies, IsAppended, items_if}
 use Rattle.range_merge.specs.Owners.{Owner, left_only, right_only, shared}
 use Rattle.range_merge.specs.Parts.{Progress}
 use Rattle.range_merge.specs.Runs.{joined, runs, runs_of, weight, weight_of}
-use Rattle.range_merge.specs.Singly.{is_answer, table_from, lefts_of, rights_of, IsLong, IsRead, IsStep, AreFour}
+use Rattle.range_merge.specs.Singly.{is_answer, table_from, lefts_of, rights_of, IsLong, IsRead}
 use Rattle.range_merge.specs.Steps.{FirstsStand, one_of_run, takes, taken_of_run, left_after, right_after, left_on_after, right_on_after}
 use Rattle.range_merge.specs.declared.runs.Run.{Run}
 use Rattle.range_merge.specs.declared.runs.Run.TheVariants.{Left, Right, Both}
@@ -77,7 +77,7 @@ takes-answers f Greater ac true = differ-answers (f false false) (f ac true) (f 
 takes-answers f Greater ac false = differ-answers (f false false) (f ac false) (f ac true)
 
 -- the sides after one step
-odd-lefts : (how : Ordering) (i i' : ℕ) → i' ≡ i + lefts_of how → is_odd i' ≡ left_on_after (one_of_run how) (is_odd i)
+pub odd-lefts : (how : Ordering) (i i' : ℕ) → i' ≡ i + lefts_of how → is_odd i' ≡ left_on_after (one_of_run how) (is_odd i)
 odd-lefts Less i i' e = ap is_odd e ∙ is_odd-add i 1 ∙ odd-one (is_odd i)
   where
     odd-one : (b : Bool) → differ b true ≡ differ b (is_odd 1)
@@ -124,14 +124,14 @@ module _ {K : Type 0} where
   take-one : (xs : List K) (x : K) → slice_get xs 0 ≡ Some x → take 1 xs ≡ x ∷ []
   take-one xs x is = ap (take 1) (drop-cons xs 0 x (slice_get_within xs 0 x is)) ∙ ap (λ y. y ∷ []) (get_or_from_slice_get xs 0 x x is)
 
-  take-first : (how : Ordering) (l r : List K) (x y : K) → slice_get l 0 ≡ Some x → slice_get r 0 ≡ Some y
+  pub take-first : (how : Ordering) (l r : List K) (x y : K) → slice_get l 0 ≡ Some x → slice_get r 0 ≡ Some y
       → cond (is_le how) x y ∷ [] ≡ take 1 (cond (is_le how) l r)
   take-first Less l r x y x_is y_is = sym (take-one l x x_is)
   take-first Equal l r x y x_is y_is = sym (take-one l x x_is)
   take-first Greater l r x y x_is y_is = sym (take-one r y y_is)
 
   -- how two lists stand, of whose first items it is known
-  FirstsStand-of : (order : K → K → Ordering) (l r : List K) (x y : K) (how : Ordering) → slice_get l 0 ≡ Some x → slice_get r 0 ≡ Some y
+  pub FirstsStand-of : (order : K → K → Ordering) (l r : List K) (x y : K) (how : Ordering) → slice_get l 0 ≡ Some x → slice_get r 0 ≡ Some y
       → order x y ≡ how → FirstsStand order l r (Some how)
   FirstsStand-of order l r x y how x_is y_is stands = (
     slice_get_within l 0 x x_is,
@@ -140,24 +140,16 @@ module _ {K : Type 0} where
   )
 
   -- an item of a window
-  slice_get-take : (n : ℕ) (xs : List K) (u : ℕ) (x : K) → slice_get (take n xs) u ≡ Some x → slice_get xs u ≡ Some x
+  pub slice_get-take : (n : ℕ) (xs : List K) (u : ℕ) (x : K) → slice_get (take n xs) u ≡ Some x → slice_get xs u ≡ Some x
   slice_get-take zero xs u x is = absurd cc
   slice_get-take (suc n) [] u x is = absurd cc
   slice_get-take (suc n) (y ∷ xs) zero x is = is
   slice_get-take (suc n) (y ∷ xs) (suc u) x is = slice_get-take n xs u x is
 
-  slice_get-drop : (xs : List K) (u : ℕ) (x : K) → slice_get xs u ≡ Some x → slice_get (drop u xs) 0 ≡ Some x
+  pub slice_get-drop : (xs : List K) (u : ℕ) (x : K) → slice_get xs u ≡ Some x → slice_get (drop u xs) 0 ≡ Some x
   slice_get-drop xs zero x is = is
   slice_get-drop [] (suc u) x is = absurd cc
   slice_get-drop (y ∷ xs) (suc u) x is = slice_get-drop xs u x is
-
-  pub first-of_window : (n i u : ℕ) (xs : List K) (x : K) → slice_get (take n (drop i xs)) u ≡ Some x → slice_get (drop (i + u) xs) 0 ≡ Some x
-  first-of_window n i u xs x is = rw drop-drop at (slice_get-drop (drop i xs) u x (slice_get-take n (drop i xs) u x is))
-
-  pub window-first : (n : ℕ) (xs : List K) (x : K) → 1 ≤ n → slice_get xs 0 ≡ Some x → slice_get (take n xs) 0 ≡ Some x
-  window-first zero xs x some is = absurd (omega (arith, some))
-  window-first (suc n) [] x some is = is
-  window-first (suc n) (y ∷ xs) x some is = is
 
   -- what was written to the room at k
   pub take-window : (k n q : ℕ) (out room : List K) → k ≤ length out → q ≤ length room → take (k + q) (put_mid k n out room) ≡ take k out ++ take q room
@@ -196,7 +188,7 @@ module _ {K : Type 0} where
       ∙ behind-more k (k + q) out first (omega arith) so_far
 
   -- the same items behind others
-  IsAppended-behind : {alike : K → K → Type 0} (front : List K) {t t' : Bool} {items items' old new : List K} → t ≡ t' → items ≡ items'
+  pub IsAppended-behind : {alike : K → K → Type 0} (front : List K) {t t' : Bool} {items items' old new : List K} → t ≡ t' → items ≡ items'
       → IsAppended alike (items_if t items) old new → IsAppended alike (items_if t' items') (front ++ old) (front ++ new)
   IsAppended-behind front {old} t_is items_are put = record {
     copies = put.copies;
@@ -242,14 +234,11 @@ module _ {K : Type 0} where
       same-is : (k k' : ℕ) → k' ≡ k + 0 → k' ≡ k
       same-is k k' e = omega (arith, e)
 
-  pub IsAppended-one : (alike : K → K → Type 0) (f : Table) (how : Ordering) (i j k i' j' k' : ℕ) (first : K) (items old new : List K) (on : Bool)
-      → i' ≡ i + lefts_of how → j' ≡ j + rights_of how → on ≡ is_answer f (is_odd i') (is_odd j') → is_odd k ≡ is_answer f (is_odd i) (is_odd j)
-      → items ≡ first ∷ [] → take k new ≡ take k old → (not (beq on (is_odd k)) ≡ true → IsAppended alike (first ∷ []) (take k old) (take (k + 1) new))
-      → k' ≡ k + bool_byte (not (beq on (is_odd k)))
-      → IsAppended alike (items_if (takes f (is_odd i) (is_odd j) (one_of_run how)) items) (take k old) (take k' new)
-  IsAppended-one alike f how i j k i' j' k' first items old new on left right on_is was items_are front put e =
-      let taken : not (beq on (is_odd k)) ≡ takes f (is_odd i) (is_odd j) (one_of_run how) = is_taken f how i j k i' j' on left right on_is was in
-      rw items_are (IsAppended-if alike (takes f (is_odd i) (is_odd j) (one_of_run how)) k (first ∷ []) old new front (λ t. put (taken ∙ t)) k' (e ∙ ap (λ t. k + bool_byte t) taken))
+  pub IsAppended-of : (alike : K → K → Type 0) (taken wanted : Bool) (k k' : ℕ) (first : K) (items old new : List K) → taken ≡ wanted → items ≡ first ∷ []
+      → take k new ≡ take k old → (taken ≡ true → IsAppended alike (first ∷ []) (take k old) (take (k + 1) new)) → k' ≡ k + bool_byte taken
+      → IsAppended alike (items_if wanted items) (take k old) (take k' new)
+  IsAppended-of alike taken wanted k k' first items old new same items_are front put e =
+      rw items_are (IsAppended-if alike wanted k (first ∷ []) old new front (λ t. put (same ∙ t)) k' (e ∙ ap (λ t. k + bool_byte t) same))
 
   joined-left : (x : K) (rs : List Run) → joined (left_only x) rs ≡ before (Some (Left 1)) rs
   joined-left x [] = refl
@@ -323,16 +312,23 @@ takes-at f i j u v run =
     ∙ ap (λ ac. takes f ac (differ (is_odd j) (is_odd v)) run) (sym (is_odd-add i u))
     ∙ ap (λ bc. takes f (is_odd (i + u)) bc run) (sym (is_odd-add j v))
 
-module _ {K : Type 0} (alike : K → K → Type 0) (order : K → K → Ordering) (f : Table) (a b : List K) where
+-- what is left of an ascending list, of which some is left
+ascends-from : {K : Type 0} (order : K → K → Ordering) (n m : ℕ) (xs : List K) → n ≤ m → IsAscending order (drop n xs) → IsAscending order (drop m xs)
+ascends-from order n m xs more h =
+    let sum : n + (m - n) ≡ m = omega (arith, more) in
+    let same : drop (m - n) (drop n xs) ≡ drop m xs = drop-drop (m - n) n xs ∙ ap (λ k. drop k xs) sum in
+    rw (← same) (AllPairs-drop (λ x y. order x y ≡ Less) (m - n) (drop n xs) h)
+
+module _ {K : Type 0} (alike : K → K → Type 0) (order : K → K → Ordering) (f : Table) (a b : List K) (i0 j0 : ℕ) where
   -- how far a read came, m steps after a look at i1 and j1: what was put out, and that one
   -- comparison an item, with those that are owed, is within twice the weight, up to the run that is
   -- being read
   pub record Reads (count0 m i1 j1 i j : ℕ) (out : List K) (count : ℕ) (next : Ordering) : Type 0 where
-    pub read : IsRead alike order f a b i j out next
+    pub read : IsRead alike order f a b i0 j0 i j out next
     pub run : Option Run
     pub owed : ℕ
     pub at_least : count0 ≤ count
-    pub paid : count + owed + 2 * weight_of (before run (runs order (drop i a) (drop j b))) ≤ count0 + 2 * weight order a b + read_of run
+    pub paid : count + owed + 2 * weight_of (before run (runs order (drop i a) (drop j b))) ≤ count0 + 2 * weight order (drop i0 a) (drop j0 b) + read_of run
     pub is_owed : IsOwed m (read_of run) owed
     pub lefts : ℕ
     pub rights : ℕ
@@ -341,9 +337,9 @@ module _ {K : Type 0} (alike : K → K → Type 0) (order : K → K → Ordering
     pub since : IsSince m lefts rights run
 
   -- nothing was read yet
-  pub Reads-start : (count : ℕ) (next : Ordering) → FirstsStand order a b (Some next) → Reads count 0 0 0 0 0 [] count next
+  pub Reads-start : (count : ℕ) (next : Ordering) → FirstsStand order (drop i0 a) (drop j0 b) (Some next) → Reads count 0 i0 j0 i0 j0 [] count next
   Reads-start count next stands = record {
-    read = record { progress = Progress-none; stands = stands };
+    read = record { lefts = omega arith; rights = omega arith; progress = Progress-none; stands = stands };
     run = None;
     owed = 0;
     at_least = omega arith;
@@ -365,7 +361,7 @@ module _ {K : Type 0} (alike : K → K → Type 0) (order : K → K → Ordering
 
   -- it costs six comparisons more than twice the weight of what was read, if that
   pub Reads-cost : {count0 m i1 j1 i j : ℕ} {out : List K} {count : ℕ} {next : Ordering} → m ≤ 4 → Reads count0 m i1 j1 i j out count next
-      → count + 2 * weight order (drop i a) (drop j b) ≤ count0 + 2 * weight order a b + 6
+      → count + 2 * weight order (drop i a) (drop j b) ≤ count0 + 2 * weight order (drop i0 a) (drop j0 b) + 6
   Reads-cost {m} {i} {j} few w =
       omega (
         arith,
@@ -374,12 +370,12 @@ module _ {K : Type 0} (alike : K → K → Type 0) (order : K → K → Ordering
         six-more (read_of w.run) w.owed (omega (arith, w.is_owed.within, few)) (late-at m (read_of w.run) w.owed few w.is_owed) (eq-zero-or-pos (7 - read_of w.run)),
       )
 
-  -- as many comparisons were made as fit the counter, with eight more
+  -- as many comparisons were made as fit the counter, with sixteen more
   pub Reads-made : {count0 m i1 j1 i j : ℕ} {out : List K} {count : ℕ} {next : Ordering}
-      → m ≤ 4 → length a + length b < 2 ^ 65 → count0 < 2 ^ 127 → Reads count0 m i1 j1 i j out count next → count + 8 < 2 ^ 128 - 1
-  Reads-made few fits made w = omega (arith, w.paid, w.is_owed.within, numbers.weight-le order a b, fits, made, few)
+      → m ≤ 4 → length (drop i0 a) + length (drop j0 b) < 2 ^ 65 → count0 < 2 ^ 127 → Reads count0 m i1 j1 i j out count next → count + 16 < 2 ^ 128 - 1
+  Reads-made few fits made w = omega (arith, w.paid, w.is_owed.within, numbers.weight-le order (drop i0 a) (drop j0 b), fits, made, few)
 
-  module _ (o : IsTotalOrder order) (a_ascends : IsAscending order a) (b_ascends : IsAscending order b) where
+  module _ (o : IsTotalOrder order) (a_ascends : IsAscending order (drop i0 a)) (b_ascends : IsAscending order (drop j0 b)) where
     -- one step more
     pub Reads-more : {count0 m i1 j1 i j : ℕ} {out : List K} {count : ℕ} {how : Ordering} {i' j' : ℕ} {out' : List K} {count' : ℕ} {next : Ordering}
         → m ≤ 3 → Reads count0 m i1 j1 i j out count how → i' ≡ i + lefts_of how → j' ≡ j + rights_of how
@@ -387,16 +383,18 @@ module _ {K : Type 0} (alike : K → K → Type 0) (order : K → K → Ordering
         → FirstsStand order (drop i' a) (drop j' b) (Some next) → count' ≡ count + 1
         → Reads count0 (m + 1) i1 j1 i' j' out' count' next
     Reads-more {count0} {m} {i1} {j1} {i} {j} {out} {count} {how} {i'} {j'} {out'} {count'} {next} few w left right put stands counted =
-        let l_ascends : IsAscending order (drop i a) = AllPairs-drop (λ x y. order x y ≡ Less) i a a_ascends in
-        let r_ascends : IsAscending order (drop j b) = AllPairs-drop (λ x y. order x y ≡ Less) j b b_ascends in
+        let l_ascends : IsAscending order (drop i a) = ascends-from order i0 i a w.read.lefts a_ascends in
+        let r_ascends : IsAscending order (drop j b) = ascends-from order j0 j b w.read.rights b_ascends in
         let rest : List Run = runs order (drop i' a) (drop j' b) in
         let runs_are : runs order (drop i a) (drop j b) ≡ before (Some (one_of_run how)) rest =
         rw (drop-lefts how i i' a left, drop-rights how j j' b right) (runs-one o (drop i a) (drop j b) l_ascends r_ascends how w.read.stands) in
-        let spent : count + w.owed + 2 * weight_of (before w.run (before (Some (one_of_run how)) rest)) ≤ count0 + 2 * weight order a b + read_of w.run =
+        let spent : count + w.owed + 2 * weight_of (before w.run (before (Some (one_of_run how)) rest)) ≤ count0 + 2 * weight order (drop i0 a) (drop j0 b) + read_of w.run =
         rw (← runs_are) w.paid in
         let paid = grown-pays w.run how rest m w.owed few w.is_owed in
         record {
           read = record {
+            lefts = omega (arith, w.read.lefts, left);
+            rights = omega (arith, w.read.rights, right);
             progress = rw (drop-lefts how i i' a left, drop-rights how j j' b right, odd-lefts how i i' left, odd-rights how j j' right)
                 (Progress-then w.read.progress (Progress-one o (drop i a) (drop j b) l_ascends r_ascends alike f how (is_odd i) (is_odd j) out out' w.read.stands put));
             stands = stands;
@@ -412,44 +410,6 @@ module _ {K : Type 0} (alike : K → K → Type 0) (order : K → K → Ordering
           j_is = omega (arith, w.j_is, right);
           since = IsSince-more w.run how m w.lefts w.rights w.since;
         }
-
-    -- the same of windows that begin at i and j, where what it puts out comes behind other items
-    Reads-step : (n n' i j u v : ℕ) (front : List K) {count0 m i1 j1 : ℕ} {old : List K} {count : ℕ} {how : Ordering} {x y : K} {u' v' : ℕ} {new : List K} {count' : ℕ} {next : Ordering} {x' y' : K}
-        → m ≤ 3 → Reads count0 m i1 j1 (i + u) (j + v) (front ++ old) count how
-        → slice_get (take n (drop i a)) u ≡ Some x → slice_get (take n' (drop j b)) v ≡ Some y
-        → IsStep alike order (table_from f (is_odd i) (is_odd j)) (take n (drop i a)) (take n' (drop j b)) u v old how x y u' v' new next x' y' → count' ≡ count + 1
-        → Reads count0 (m + 1) i1 j1 (i + u') (j + v') (front ++ new) count' next
-    Reads-step n n' i j u v front {how} {x} {y} {u'} {v'} {next} {x'} {y'} few w x_is y_is step counted =
-        let first_is = take-first how (drop (i + u) a) (drop (j + v) b) x y (first-of_window n i u a x x_is) (first-of_window n' j v b y y_is) in
-        Reads-more few w (omega (arith, step.lefts)) (omega (arith, step.rights)) (IsAppended-behind front (takes-at f i j u v (one_of_run how)) first_is step.put)
-        (FirstsStand-of order (drop (i + u') a) (drop (j + v') b) x' y' next (first-of_window n i u' a x' step.left_is) (first-of_window n' j v' b y' step.right_is) step.stands)
-        counted
-
-    -- four steps from a look on, in windows that begin at i and j, from their items u0 and v0 on
-    pub Reads-four : (n n' i j u v : ℕ) (front wa wb : List K) {count0 i1 j1 : ℕ} {old new : List K} {count u' v' count' : ℕ} {how next : Ordering} {x y x' y' : K}
-        → wa ≡ take n (drop i a) → wb ≡ take n' (drop j b)
-        → Reads count0 0 i1 j1 (i + u) (j + v) (front ++ old) count how → slice_get wa u ≡ Some x → slice_get wb v ≡ Some y
-        → AreFour alike order (table_from f (is_odd i) (is_odd j)) wa wb u v old how x y u' v' new next x' y' → count' ≡ count + 4
-        → Reads count0 4 i1 j1 (i + u') (j + v') (front ++ new) count' next
-    Reads-four n n' i j u v front wa wb {count} wa_is wb_is w x_is y_is steps counted =
-        let s = rw (wa_is, wb_is) at steps in
-        let one = Reads-step n n' i j u v front {count' = count + 1} (omega arith) w (rw wa_is at x_is) (rw wb_is at y_is) s.one refl in
-        let two = Reads-step n n' i j s.i1 s.j1 front {count' = count + 2} (omega arith) one s.one.left_is s.one.right_is s.two (omega arith) in
-        let three = Reads-step n n' i j s.i2 s.j2 front {count' = count + 3} (omega arith) two s.two.left_is s.two.right_is s.three (omega arith) in
-        Reads-step n n' i j s.i3 s.j3 front (omega arith) three s.three.left_is s.three.right_is s.four (omega (arith, counted))
-
-    -- a look at the start of windows
-    pub Reads-window : {count0 i j : ℕ} {out : List K} {count : ℕ} {next : Ordering}
-        → Reads count0 0 i j i j out count next → Reads count0 0 (i + 0) (j + 0) (i + 0) (j + 0) (out ++ []) count next
-    Reads-window {count0} {i} {j} {out} {count} {next} w =
-        let i_is : i + 0 ≡ i = omega arith in
-        let j_is : j + 0 ≡ j = omega arith in
-        rw (append-nil out, i_is, j_is) w
-
-    -- what was put into a room of out is a part of it
-    pub Reads-put : (n k q : ℕ) (out room : List K) {count0 m i1 j1 i j count : ℕ} {next : Ordering} → k ≤ length out → q ≤ length room
-        → Reads count0 m i1 j1 i j (take k out ++ take q room) count next → Reads count0 m i1 j1 i j (take (k + q) (put_mid k n out room)) count next
-    Reads-put n k q out room in_out in_room w = rw (take-window k n q out room in_out in_room) w
 
     looked-at : {count0 i1 j1 i j : ℕ} {out : List K} {count : ℕ} {next : Ordering}
         → (w : Reads count0 4 i1 j1 i j out count next) → (4 ≤ read_of w.run → goes_on w.run next ≡ false)
@@ -468,8 +428,8 @@ module _ {K : Type 0} (alike : K → K → Type 0) (order : K → K → Ordering
       since = IsSince-none w.run;
     }
     looked-at {count0} {i1} {j1} {i} {j} {out} {count} {next} w ends (inr many) =
-        let l_ascends : IsAscending order (drop i a) = AllPairs-drop (λ x y. order x y ≡ Less) i a a_ascends in
-        let r_ascends : IsAscending order (drop j b) = AllPairs-drop (λ x y. order x y ≡ Less) j b b_ascends in
+        let l_ascends : IsAscending order (drop i a) = ascends-from order i0 i a w.read.lefts a_ascends in
+        let r_ascends : IsAscending order (drop j b) = ascends-from order j0 j b w.read.rights b_ascends in
         let ended : 2 * weight order (drop i a) (drop j b) + read_of w.run ≤ 2 * weight_of (before w.run (runs order (drop i a) (drop j b))) + w.owed =
         rw (runs-one o (drop i a) (drop j b) l_ascends r_ascends next w.read.stands) (ended-pays w.run next _ w.owed (ends (omega (arith, many))) w.is_owed) in
         record {

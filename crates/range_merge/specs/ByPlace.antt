@@ -11,4 +11,4 @@ pub record IsCounted {K : Type 0} (order : K → K → Ordering) (f : Table) (a 
     (i j k : ℕ) (next : Ordering) : Type 0 where
   pub out : List K
   pub len : length out ≡ k
-  pub read : IsRead (λ x y. x ≡ y) order f a b i j out next
+  pub read : IsRead (λ x y. x ≡ y) order f a b 0 0 i j out next

@@ -1,5 +1,6 @@
 //! A slice that is read from its front.
-ghost use Rattle.std.specs.Prelude.{◌≡◌, ◌≤◌, List, length, take, drop};
+ghost use Rattle.std.specs.Prelude.{◌≡◌, ◌-◌, ◌≤◌, List, length, take, drop, IfSome};
+ghost use Rattle.range_merge.specs.Singly.{odd_from};
 ghost use Rattle.std.specs.Iterator.{YieldsFirstRef, item_count};
 
 use std::marker::Model;
@@ -8,13 +9,18 @@ use std::marker::Model;
 /// order.
 #[derive(Drop)]
 pub struct SliceIterator<'a, K> {
+    all: &'a [K],
     unread: &'a [K],
 }
 
 impl<'a, K> Model for SliceIterator<'a, K> {
+    ghost use Rattle.std.specs.Prelude.{◌≡◌, ◌-◌, List, length, drop};
+
     ghost Value = { List K };
 
     ghost view = { λ s. s.unread.now };
+
+    ghost invariant = { λ s. drop (length s.all.now - length s.unread.now) s.all.now ≡ s.unread.now };
 }
 
 impl<'a, K> SliceIterator<'a, K> {
@@ -23,7 +29,10 @@ impl<'a, K> SliceIterator<'a, K> {
     pub fn new(slice: &'a [K]) -> Self
         ensures { result ≡ slice.now }
     {
-        SliceIterator { unread: slice }
+        SliceIterator {
+            all: slice,
+            unread: slice,
+        }
     }
 
     /// The unread items. They live as long as the slice, and not only as long as the iterator.
@@ -32,6 +41,22 @@ impl<'a, K> SliceIterator<'a, K> {
         ensures { result.now ≡ self.now }
     {
         self.unread
+    }
+
+    /// The unread items, from the last even place of the slice on: where an odd number was read,
+    /// the last one that was read comes first. `None` if none was, though `is_odd`.
+    #[inline(always)]
+    pub(crate) fn from_even(&self, is_odd: bool) -> Option<&'a [K]>
+        ensures { IfSome result (λ items. drop (odd_from is_odd) items.now ≡ self.now) }
+    {
+        let all = self.all;
+        let read = all.len() - self.unread.len();
+        let before = is_odd as usize;
+        if before <= read {
+            Some(&all[read - before..])
+        } else {
+            None
+        }
     }
 
     /// Drops the first `n` unread items.

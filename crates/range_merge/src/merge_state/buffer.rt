@@ -8,8 +8,8 @@ ghost use Rattle.range_merge.specs.Changes.{changes, from_left, taken_items};
 ghost use Rattle.range_merge.specs.Buffers.{IsFilled};
 ghost use Rattle.range_merge.specs.Counting.{AddsAtMost};
 ghost use Rattle.range_merge.specs.Runs.{weight};
-ghost use Rattle.range_merge.specs.Singly.{table_from, IsRead};
-ghost use Rattle.range_merge.specs.Steps.{FirstsStand};
+ghost use Rattle.range_merge.specs.Singly.{IsRead};
+ghost use Rattle.range_merge.specs.Reading.{CanRead};
 
 use crate::compare::{Compare, Copier, Done};
 use crate::merge_state::output::Output;
@@ -17,9 +17,8 @@ use crate::merge_state::over_slices::SliceMergeState;
 use crate::merge_state::reading::{Room, Singly};
 use crate::merging;
 use crate::operations::MergeOperation;
-use crate::singly::{ReadSoFar, Relative, read_singly};
+use crate::singly::{ReadSoFar, read_singly};
 use std::alloc::AllocError;
-use std::cmp::Ordering;
 use std::mem::size_of_val;
 
 /// A state that writes the items that are taken into a borrowed slice, and counts them. It never
@@ -193,14 +192,14 @@ impl<'o, K: Copy, O: MergeOperation, C: Compare<K>> Room<K, (), ByCopy, O, C> fo
         &mut self,
         a: &[K],
         b: &[K],
-        next: Ordering,
-        op: &Relative<'_, O>,
+        from: ReadSoFar,
+        op: &O,
         copier: &ByCopy,
         cmp: C,
         _n: usize,
     ) -> Done<C, ReadSoFar> {
         let at = self.given.min(self.items.len());
-        let read = read_behind(a, b, next, op, copier, cmp, &mut self.items[at..]);
+        let read = read_behind(a, b, from, op, copier, cmp, &mut self.items[at..]);
         self.given += read.answer.k;
         read
     }
@@ -211,31 +210,28 @@ impl<'o, K: Copy, O: MergeOperation, C: Compare<K>> Room<K, (), ByCopy, O, C> fo
 fn read_behind<K: Copy, O: MergeOperation, C: Compare<K>>(
     a: &[K],
     b: &[K],
-    next: Ordering,
-    op: &Relative<'_, O>,
+    from: ReadSoFar,
+    op: &O,
     copier: &ByCopy,
     cmp: C,
     out: &mut [K],
 ) -> Done<C, ReadSoFar>
-    requires left_ascending { IsAscending C.order a.now }
-    requires right_ascending { IsAscending C.order b.now }
-    requires stands { FirstsStand C.order a.now b.now (Some next) }
-    requires fits { length a.now + length b.now < 2 ^ 65 }
+    requires can_read { CanRead C.order (λ x y. y ≡ x) (λ _. ⊤) (drop from.i a.now) (drop from.j b.now)
+        from.next }
     requires made { C.count cmp < 2 ^ 126 }
-    ensures read { IsRead (λ x y. y ≡ x) C.order
-        (table_from (O.connective op.now.op.now) op.now.ac op.now.bc) a.now b.now
+    ensures read { IsRead (λ x y. y ≡ x) C.order (O.connective op.now) a.now b.now from.i from.j
         result.answer.i result.answer.j (take result.answer.k out.new) result.answer.next }
     ensures behind { drop result.answer.k out.new ≡ drop result.answer.k out.old }
     ensures within { result.answer.k ≤ length out.new }
-    ensures at_most { result.answer.k ≤ result.answer.i + result.answer.j }
+    ensures at_most { result.answer.k + (from.i + from.j) ≤ result.answer.i + result.answer.j }
     ensures len { length out.new ≡ length out.old }
     ensures comparisons { C.count result.cmp
         + 2 * weight C.order (drop result.answer.i a.now) (drop result.answer.j b.now)
-        ≤ C.count cmp + 2 * weight C.order a.now b.now + 6 }
+        ≤ C.count cmp + 2 * weight C.order (drop from.i a.now) (drop from.j b.now) + 6 }
     ensures made { C.count cmp ≤ C.count result.cmp }
 {
     let mut cmp = cmp;
-    let answer = read_singly(a, b, next, op, copier, &mut cmp, out, true);
+    let answer = read_singly(a, b, from, op, copier, &mut cmp, out, true);
     Done { cmp, answer }
 }
 

@@ -137,7 +137,7 @@ impl<'r, K, O: MergeOperation, C: Compare<K>> Work<K, C> for Counting<'r, K, O> 
         IsCounted C.order (table_from (O.connective it.op.now.op.now) it.op.now.ac it.op.now.bc)
         it.a.now it.b.now at.i at.j at.k at.next
         × (at.k ≤ at.i + at.j)
-        × CostsAtMost C.order it.a.now it.b.now at.i at.j n };
+        × CostsAtMost C.order it.a.now it.b.now 0 0 at.i at.j n };
 
     #[inline(always)]
     fn run(&mut self, cmp: C) -> Done<C, ReadSoFar> {

@@ -6,8 +6,8 @@ ghost use Rattle.range_merge.specs.Changes.{changes};
 ghost use Rattle.range_merge.specs.Copies.{AreCopies};
 ghost use Rattle.range_merge.specs.Counting.{AddsAtMost};
 ghost use Rattle.range_merge.specs.Runs.{weight};
-ghost use Rattle.range_merge.specs.Singly.{table_from, IsRead};
-ghost use Rattle.range_merge.specs.Steps.{FirstsStand};
+ghost use Rattle.range_merge.specs.Singly.{IsRead};
+ghost use Rattle.range_merge.specs.Reading.{CanRead};
 
 use crate::compare::{Compare, Copier, Done};
 use crate::merge_state::buffer::take_back;
@@ -16,9 +16,8 @@ use crate::merge_state::over_slices::SliceMergeState;
 use crate::merge_state::reading::{Room, Singly};
 use crate::merging;
 use crate::operations::MergeOperation;
-use crate::singly::{ReadSoFar, Relative, read_singly};
+use crate::singly::{ReadSoFar, read_singly};
 use std::alloc::AllocError;
-use std::cmp::Ordering;
 
 /// A slice that is written over from its front. It has room for all that it is given.
 #[derive(Drop)]
@@ -57,13 +56,13 @@ impl<'o, 'p, K: Drop, P: Copier<K>, O: MergeOperation, C: Compare<K>> Room<K, &'
         &mut self,
         a: &[K],
         b: &[K],
-        next: Ordering,
-        op: &Relative<'_, O>,
+        from: ReadSoFar,
+        op: &O,
         copier: &P,
         cmp: C,
         _n: usize,
     ) -> Done<C, ReadSoFar> {
-        let read = read_over(&mut self.items[self.given..], cmp, a, b, next, op, copier);
+        let read = read_over(&mut self.items[self.given..], cmp, a, b, from, op, copier);
         self.given += read.answer.k;
         read
     }
@@ -135,30 +134,25 @@ fn read_over<K: Drop, P: Copier<K>, O: MergeOperation, C: Compare<K>>(
     cmp: C,
     a: &[K],
     b: &[K],
-    next: Ordering,
-    op: &Relative<'_, O>,
+    from: ReadSoFar,
+    op: &O,
     by: &P,
 ) -> Done<C, ReadSoFar>
-    requires left_ascending { IsAscending C.order a.now }
-    requires right_ascending { IsAscending C.order b.now }
-    requires stands { FirstsStand C.order a.now b.now (Some next) }
-    requires infallible { (x : K) → P.is_infallible x }
-    requires plain { (x y : K) → P.alike x y → y ≡ x }
-    requires fits { length a.now + length b.now < 2 ^ 65 }
+    requires can_read { CanRead C.order P.alike P.is_infallible (drop from.i a.now) (drop from.j b.now)
+        from.next }
     requires made { C.count cmp < 2 ^ 126 }
-    ensures read { IsRead P.alike C.order
-        (table_from (O.connective op.now.op.now) op.now.ac op.now.bc) a.now b.now
+    ensures read { IsRead P.alike C.order (O.connective op.now) a.now b.now from.i from.j
         result.answer.i result.answer.j (take result.answer.k out.new) result.answer.next }
     ensures within { result.answer.k ≤ length out.new }
-    ensures at_most { result.answer.k ≤ result.answer.i + result.answer.j }
+    ensures at_most { result.answer.k + (from.i + from.j) ≤ result.answer.i + result.answer.j }
     ensures len { length out.new ≡ length out.old }
     ensures comparisons { C.count result.cmp
         + 2 * weight C.order (drop result.answer.i a.now) (drop result.answer.j b.now)
-        ≤ C.count cmp + 2 * weight C.order a.now b.now + 6 }
+        ≤ C.count cmp + 2 * weight C.order (drop from.i a.now) (drop from.j b.now) + 6 }
     ensures made { C.count cmp ≤ C.count result.cmp }
 {
     let mut cmp = cmp;
-    let answer = read_singly(a, b, next, op, by, &mut cmp, out, false);
+    let answer = read_singly(a, b, from, op, by, &mut cmp, out, false);
     Done { cmp, answer }
 }
 

@@ -1,12 +1,11 @@
 //! Short runs of two slices of plain data, read into the room of an output.
 ghost use Rattle.std.specs.Prelude.{◌≡◌, ℕ, ◌+◌, ◌*◌, ◌^◌, ◌<◌, ◌≤◌, length, take, drop, Some};
 ghost use Rattle.std.specs.Vec.{vec_capacity};
-ghost use Rattle.range_merge.specs.Boundaries.{IsAscending, is_odd};
-ghost use Rattle.range_merge.specs.Connective.{differ};
+ghost use Rattle.range_merge.specs.Boundaries.{IsAscending};
 ghost use Rattle.range_merge.specs.Parts.{Progress};
 ghost use Rattle.range_merge.specs.Reading.{CanRead, CostsAtMost, IsReadInto};
 ghost use Rattle.range_merge.specs.Runs.{weight};
-ghost use Rattle.range_merge.specs.Singly.{table_from, IsRead};
+ghost use Rattle.range_merge.specs.Singly.{odd_from, IsRead};
 ghost use Rattle.range_merge.specs.Steps.{FirstsStand};
 
 use crate::compare::{Compare, Copier, Done, Work};
@@ -17,37 +16,37 @@ use crate::merge_state::small_vec::Copying;
 use crate::operations::MergeOperation;
 use crate::pacing::{Rounds, are_few};
 use crate::short_runs::ShortRuns;
-use crate::singly::{ReadSoFar, Relative, copied, read_singly};
+use crate::singly::{ReadSoFar, copied, read_singly};
 use std::cmp::Ordering;
 use std::marker::{Model, PhantomData};
 use std::mem;
 
 /// An output with room for plain data behind what it was given.
 pub(crate) trait Room<K, By, P: Copier<K>, O: MergeOperation, C: Compare<K>>: Output<K, By> {
-    /// Reads short runs from the starts of both slices on, as far as there is room, and counts what
-    /// is taken as given. It may make room for `n` items. The slices begin where the sides stand as
-    /// `op` says.
+    /// Reads short runs of both slices, which begin at even places, from a place on, as far as there
+    /// is room, and counts what is taken as given. It may make room for `n` items.
     fn read(
         &mut self,
         a: &[K],
         b: &[K],
-        next: Ordering,
-        op: &Relative<'_, O>,
+        from: ReadSoFar,
+        op: &O,
         copier: &P,
         cmp: C,
         n: usize,
     ) -> Done<C, ReadSoFar>
-        requires can_read { CanRead C.order P.alike P.is_infallible a.now b.now next }
-        requires fits { Self.fits self.old (length a.now + length b.now) }
+        requires can_read { CanRead C.order P.alike P.is_infallible (drop from.i a.now) (drop from.j b.now)
+            from.next }
+        requires fits { Self.fits self.old (length (drop from.i a.now) + length (drop from.j b.now)) }
         requires made { C.count cmp < 2 ^ 126 }
-        ensures read { IsReadInto C.order a.now b.now result.answer.i result.answer.j
-            (O.connective op.now.op.now) op.now.ac op.now.bc result.answer.next
+        ensures read { IsReadInto C.order a.now b.now from.i from.j result.answer.i result.answer.j
+            (O.connective op.now) result.answer.next
             Self.can_stop Self.may_be Self.fixed Self.fits Self.has_room self.old self.new }
 
         // Six more than twice the weight of what was read, if that.
         ensures comparisons { C.count result.cmp
             + 2 * weight C.order (drop result.answer.i a.now) (drop result.answer.j b.now)
-            ≤ C.count cmp + 2 * weight C.order a.now b.now + 6 }
+            ≤ C.count cmp + 2 * weight C.order (drop from.i a.now) (drop from.j b.now) + 6 }
         ensures made { C.count cmp ≤ C.count result.cmp };
 }
 
@@ -57,8 +56,8 @@ struct Reading<'r, K, By, P: Copier<K>, O: MergeOperation, L> {
     output: &'r mut L,
     a: &'r [K],
     b: &'r [K],
-    next: Ordering,
-    op: &'r Relative<'r, O>,
+    from: ReadSoFar,
+    op: &'r O,
     copier: &'r P,
     n: usize,
     by: PhantomData<By>,
@@ -69,24 +68,24 @@ impl<'r, K, By, P: Copier<K>, O: MergeOperation, C: Compare<K>, L: Room<K, By, P
     type Answer = ReadSoFar;
 
     ghost is_ready = { λ it.
-        CanRead C.order P.alike P.is_infallible it.a.now it.b.now it.next
-        × L.fits it.output.now (length it.a.now + length it.b.now) };
+        CanRead C.order P.alike P.is_infallible (drop it.from.i it.a.now) (drop it.from.j it.b.now) it.from.next
+        × L.fits it.output.now (length (drop it.from.i it.a.now) + length (drop it.from.j it.b.now)) };
 
     ghost is_done = { λ it done n at.
         (done.output.ghost_name ≡ it.output.ghost_name)
-        × IsReadInto C.order it.a.now it.b.now at.i at.j
-        (O.connective it.op.now.op.now) it.op.now.ac it.op.now.bc at.next
+        × IsReadInto C.order it.a.now it.b.now it.from.i it.from.j at.i at.j
+        (O.connective it.op.now) at.next
         L.can_stop L.may_be L.fixed L.fits L.has_room it.output.now done.output.now
-        × CostsAtMost C.order it.a.now it.b.now at.i at.j n };
+        × CostsAtMost C.order it.a.now it.b.now it.from.i it.from.j at.i at.j n };
 
     #[inline(always)]
     fn run(&mut self, cmp: C) -> Done<C, ReadSoFar> {
-        self.output.read(self.a, self.b, self.next, self.op, self.copier, cmp, self.n)
+        self.output.read(self.a, self.b, self.from, self.op, self.copier, cmp, self.n)
     }
 
     #[inline(always)]
     fn undone(&self) -> ReadSoFar {
-        ReadSoFar::start(self.next)
+        self.from
     }
 }
 
@@ -132,7 +131,7 @@ impl<'p, K, P: Copier<K>> Singly<'p, K, P> {
     #[inline(always)]
     fn learn(&mut self, at: ReadSoFar) {
         self.rounds.learn(at);
-        self.room = if self.room - at.k.min(self.room) < 8 {
+        self.room = if self.room - at.k.min(self.room) < 16 {
             self.room.saturating_mul(2)
         } else {
             ROOM
@@ -169,13 +168,21 @@ impl<
         if self.rounds.were_long(state.a_len()) {
             return next;
         }
-        let at = read_short_runs(state, self.copier, self.room, op, next, cmp);
-        self.learn(at);
-        at.next
+        // There is an item before the first unread one where an odd number was read.
+        let Some(a) = state.a.from_even(state.ac) else {
+            return next;
+        };
+        let Some(b) = state.b.from_even(state.bc) else {
+            return next;
+        };
+        let read = read_short_runs(state, a, b, self.copier, self.room, op, next, cmp);
+        self.learn(read);
+        read.next
     }
 }
 
-// Reads short runs of a state, with room for `n` items, and returns how far it came.
+// Reads short runs of a state, whose unread items are given from the last even places on, with room
+// for `n` items, and returns how many items were read.
 #[inline(always)]
 fn read_short_runs<
     K: Drop,
@@ -186,12 +193,16 @@ fn read_short_runs<
     C: Compare<K>,
 >(
     state: &mut SliceMergeState<'_, K, L, By>,
+    a: &[K],
+    b: &[K],
     copier: &P,
     n: usize,
     op: &O,
     next: Ordering,
     cmp: &mut C,
 ) -> ReadSoFar
+    requires lefts { drop (odd_from state.old.left_on) a.now ≡ state.old.left }
+    requires rights { drop (odd_from state.old.right_on) b.now ≡ state.old.right }
     requires stands { FirstsStand C.order state.old.left state.old.right (Some next) }
     requires left_ascending { IsAscending C.order state.old.left }
     requires right_ascending { IsAscending C.order state.old.right }
@@ -201,8 +212,6 @@ fn read_short_runs<
     requires made { C.count cmp.old < 2 ^ 126 }
     ensures left { state.new.left ≡ drop result.i state.old.left }
     ensures right { state.new.right ≡ drop result.j state.old.right }
-    ensures left_on { state.new.left_on ≡ differ state.old.left_on (is_odd result.i) }
-    ensures right_on { state.new.right_on ≡ differ state.old.right_on (is_odd result.j) }
     ensures fixed { state.new.fixed ≡ state.old.fixed }
     ensures progress { (first : ℕ) → Progress C.order (O.connective op.now) L.can_stop
         state.old.left state.old.right state.old.left_on state.old.right_on
@@ -216,29 +225,29 @@ fn read_short_runs<
         ≤ C.count cmp.old + 2 * weight C.order state.old.left state.old.right + 6 }
     ensures made { C.count cmp.old ≤ C.count cmp.new }
 {
-    let op = &Relative {
-        op,
-        ac: state.ac,
-        bc: state.bc,
-    };
-    let a = state.a.as_slice();
-    let b = state.b.as_slice();
+    let from = ReadSoFar::unread(state.ac, state.bc, next);
     // By value, so that the merge can keep its own counter in registers.
     let at = cmp.apart(&mut Reading {
         output: &mut state.output,
         a,
         b,
-        next,
+        from,
         op,
         copier,
         n,
         by: PhantomData,
     });
-    state.a.drop_front(at.i);
-    state.b.drop_front(at.j);
-    state.ac = state.ac != (at.i % 2 == 1);
-    state.bc = state.bc != (at.j % 2 == 1);
-    at
+    let read = ReadSoFar {
+        i: at.i - from.i,
+        j: at.j - from.j,
+        k: at.k,
+        next: at.next,
+    };
+    state.a.drop_front(read.i);
+    state.b.drop_front(read.j);
+    state.ac = at.i % 2 == 1;
+    state.bc = at.j % 2 == 1;
+    read
 }
 
 impl<'a, K: Drop, P: Copier<K>, O: MergeOperation, C: Compare<K>> Room<K, Copying<'a, P>, P, O, C>
@@ -248,8 +257,8 @@ impl<'a, K: Drop, P: Copier<K>, O: MergeOperation, C: Compare<K>> Room<K, Copyin
         &mut self,
         a: &[K],
         b: &[K],
-        next: Ordering,
-        op: &Relative<'_, O>,
+        from: ReadSoFar,
+        op: &O,
         copier: &P,
         cmp: C,
         n: usize,
@@ -257,7 +266,7 @@ impl<'a, K: Drop, P: Copier<K>, O: MergeOperation, C: Compare<K>> Room<K, Copyin
         let alloc = *self.allocator();
         // The list goes by value, so that the merge can keep its own in registers.
         let list = mem::replace(self, Vec::new(alloc));
-        let read = read_into(list, cmp, a, b, next, op, copier, n);
+        let read = read_into(list, cmp, a, b, from, op, copier, n);
         *self = read.list;
         Done {
             cmp: read.cmp,
@@ -281,36 +290,31 @@ fn read_into<K: Drop, P: Copier<K>, O: MergeOperation, C: Compare<K>>(
     cmp: C,
     a: &[K],
     b: &[K],
-    next: Ordering,
-    op: &Relative<'_, O>,
+    from: ReadSoFar,
+    op: &O,
     by: &P,
     room: usize,
 ) -> ReadInto<K, C>
-    requires left_ascending { IsAscending C.order a.now }
-    requires right_ascending { IsAscending C.order b.now }
-    requires stands { FirstsStand C.order a.now b.now (Some next) }
-    requires infallible { (x : K) → P.is_infallible x }
-    requires plain { (x y : K) → P.alike x y → y ≡ x }
-    requires fits { length a.now + length b.now < 2 ^ 65 }
+    requires can_read { CanRead C.order P.alike P.is_infallible (drop from.i a.now) (drop from.j b.now)
+        from.next }
     requires made { C.count cmp < 2 ^ 126 }
     ensures kept { take (length list.items) result.list.items ≡ list.items }
-    ensures read { IsRead P.alike C.order
-        (table_from (O.connective op.now.op.now) op.now.ac op.now.bc) a.now b.now
+    ensures read { IsRead P.alike C.order (O.connective op.now) a.now b.now from.i from.j
         result.at.i result.at.j (drop (length list.items) result.list.items) result.at.next }
     ensures comparisons { C.count result.cmp
         + 2 * weight C.order (drop result.at.i a.now) (drop result.at.j b.now)
-        ≤ C.count cmp + 2 * weight C.order a.now b.now + 6 }
+        ≤ C.count cmp + 2 * weight C.order (drop from.i a.now) (drop from.j b.now) + 6 }
     ensures made { C.count cmp ≤ C.count result.cmp }
 {
     let mut list = list;
     let mut cmp = cmp;
     let kept = list.len();
     let filled = room.min(list.capacity() - kept);
-    fill(&mut list, filled, &a[0], by);
+    fill(&mut list, filled, &a[from.i], by);
     let at = read_singly(
         a,
         b,
-        next,
+        from,
         op,
         by,
         &mut cmp,

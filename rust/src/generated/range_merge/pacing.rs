@@ -5,7 +5,7 @@ use crate::generated::range_merge::merge_state::MergeState;
 use crate::generated::range_merge::singly::ReadSoFar;
 
 // A read is worth its call from this number of items of each list on.
-const READ_FROM: usize = 16;
+const READ_FROM: usize = 24;
 // A read that took fewer items of each list met a long run soon: at its first look, or its second.
 const SOON: usize = 5;
 // This number of these in a row is no chance: among random items, too, some runs are long.

@@ -4,6 +4,7 @@
 /// The items of a slice that are still unread. As an iterator it gives references to them, in
 /// order.
 pub struct SliceIterator<'a, K> {
+    all: &'a [K],
     unread: &'a [K],
 }
 
@@ -17,7 +18,10 @@ impl<'a, K> SliceIterator<'a, K> {
     /// ```
     #[inline(always)]
     pub fn new(slice: &'a [K]) -> Self {
-        SliceIterator { unread: slice }
+        SliceIterator {
+            all: slice,
+            unread: slice,
+        }
     }
 
     /// The unread items. They live as long as the slice, and not only as long as the iterator.
@@ -30,6 +34,20 @@ impl<'a, K> SliceIterator<'a, K> {
     #[inline(always)]
     pub fn as_slice(&self) -> &'a [K] {
         self.unread
+    }
+
+    /// The unread items, from the last even place of the slice on: where an odd number was read,
+    /// the last one that was read comes first. `None` if none was, though `is_odd`.
+    #[inline(always)]
+    pub(crate) fn from_even(&self, is_odd: bool) -> Option<&'a [K]> {
+        let all = self.all;
+        let read = all.len() - self.unread.len();
+        let before = is_odd as usize;
+        if before <= read {
+            Some(&all[read - before..])
+        } else {
+            None
+        }
     }
 
     /// Drops the first `n` unread items.

@@ -1,60 +1,36 @@
-use Rattle.std.proofs.Common.{take}
+use Rattle.std.proofs.Common.{take, false}
+use Rattle.range_merge.specs.Singly.{place}
+use Rattle.range_merge.proofs.EvenSteps.{IsStep-of}
 use Rattle.range_merge.proofs.SinglySteps.{behind-four}
 use Rattle.range_merge.proofs.singly.four_steps.Goals as goal
 
 pub returns-clause-steps : goal.returns-clause-steps
-returns-clause-steps g c = record {
-  i1 = c.step-one.result.i;
-  i2 = c.step-two.result.i;
-  i3 = c.step-three.result.i;
-  j1 = c.step-one.result.j;
-  j2 = c.step-two.result.j;
-  j3 = c.step-three.result.j;
-  out1 = take c.step-one.result.k c.step-one.new.out;
-  out2 = take c.step-two.result.k c.step-two.new.out;
-  out3 = take c.step-three.result.k c.step-three.new.out;
-  how1 = c.step-one.result.next;
-  how2 = c.step-two.result.next;
-  how3 = c.step-three.result.next;
-  x1 = c.step-one.new.firsts.left;
-  x2 = c.step-two.new.firsts.left;
-  x3 = c.step-three.new.firsts.left;
-  y1 = c.step-one.new.firsts.right;
-  y2 = c.step-two.new.firsts.right;
-  y3 = c.step-three.new.firsts.right;
-  one = record {
-    lefts = c.step-one.ensures.lefts;
-    rights = c.step-one.ensures.rights;
-    put = c.step-one.ensures.put;
-    left_is = c.step-one.ensures.left_is;
-    right_is = c.step-one.ensures.right_is;
-    stands = c.step-one.ensures.next;
-  };
-  two = record {
-    lefts = c.step-two.ensures.lefts;
-    rights = c.step-two.ensures.rights;
-    put = c.step-two.ensures.put;
-    left_is = c.step-two.ensures.left_is;
-    right_is = c.step-two.ensures.right_is;
-    stands = c.step-two.ensures.next;
-  };
-  three = record {
-    lefts = c.step-three.ensures.lefts;
-    rights = c.step-three.ensures.rights;
-    put = c.step-three.ensures.put;
-    left_is = c.step-three.ensures.left_is;
-    right_is = c.step-three.ensures.right_is;
-    stands = c.step-three.ensures.next;
-  };
-  four = record {
-    lefts = c.step.ensures.lefts;
-    rights = c.step.ensures.rights;
-    put = c.step.ensures.put;
-    left_is = c.step.ensures.left_is;
-    right_is = c.step.ensures.right_is;
-    stands = c.step.ensures.next;
-  };
-}
+returns-clause-steps g c =
+    let one = c.step-one in
+    let two = c.step-two in
+    let three = c.step-three in
+    let alike = g.P.Copier.alike in
+    let order = g.C.Compare.order in
+    let f = g.O.MergeOperation.connective c.args.op.now in
+    let a = c.args.a.now in
+    let b = c.args.b.now in
+    record {
+      mid = place one.result.i one.result.j (take one.result.k one.new.out) one.result.next false (g.C.Compare.count one.new.cmp);
+      first = IsStep-of alike order f a b c.requires.left_is c.requires.right_is one.ensures.lefts one.ensures.rights one.ensures.put one.ensures.left_is one.ensures.right_is one.ensures.next
+          one.ensures.counted;
+      rest = record {
+        mid = place two.result.i two.result.j (take two.result.k two.new.out) two.result.next false (g.C.Compare.count two.new.cmp);
+        first = IsStep-of alike order f a b one.ensures.left_is one.ensures.right_is two.ensures.lefts two.ensures.rights two.ensures.put two.ensures.left_is two.ensures.right_is
+            two.ensures.next two.ensures.counted;
+        rest = record {
+          mid = place three.result.i three.result.j (take three.result.k three.new.out) three.result.next false (g.C.Compare.count three.new.cmp);
+          first = IsStep-of alike order f a b two.ensures.left_is two.ensures.right_is three.ensures.lefts three.ensures.rights three.ensures.put three.ensures.left_is
+              three.ensures.right_is three.ensures.next three.ensures.counted;
+          rest = IsStep-of alike order f a b three.ensures.left_is three.ensures.right_is c.step.ensures.lefts c.step.ensures.rights c.step.ensures.put c.step.ensures.left_is
+              c.step.ensures.right_is c.step.ensures.next c.step.ensures.counted;
+        };
+      };
+    }
 
 pub returns-clause-behind : goal.returns-clause-behind
 returns-clause-behind g c = λ keep.

@@ -1,213 +1,219 @@
-use Rattle.std.proofs.Common.{◌≡◌, ◌+◌, ◌-◌, ◌^◌, ◌<◌, ◌≤◌, ℕ, List, length, take, drop, refl, ap, sym, ◌∙◌, arith}
-use borrow.Rule.Slice.PartMut.{put_mid, same_len_mid}
-use Rattle.std.proofs.lemmas.Bool.{false≢true}
-use Rattle.std.proofs.lemmas.List.{length-take-le, length-drop, drop-drop, take_rest}
-use Rattle.std.proofs.lemmas.Option.{slice_get_read}
-use Rattle.range_merge.proofs.SinglySteps.{Reads-start, Reads-window, Reads-four, Reads-put, Reads-made, Reads-looked, Reads-cost, window-first, first-of_window, behind-more, behind-window}
+use Rattle.std.proofs.Common.{◌≡◌, ◌+◌, ◌-◌, ◌≤◌, ◌<◌, ◌^◌, ◌%◌, ℕ, List, length, take, drop, refl, ap, sym, ◌∙◌, arith}
+use Rattle.std.proofs.lemmas.List.{length-drop, drop-drop, take_rest}
+use Rattle.std.proofs.lemmas.Option.{slice_get_read, slice_get_within}
+use Rattle.range_merge.specs.Singly.{place}
+use Rattle.range_merge.proofs.EvenSteps.{AreSixteen-reads, Came-sixteen, before-rest, even-part, even-then, item-behind, one-few, parted}
+use Rattle.range_merge.proofs.SinglySteps.{Reads-start, Reads-cost, Reads-made, behind-more}
 use Rattle.range_merge.proofs.singly.read_singly.Goals as goal
 
-pub loop-lefts-init : goal.loop-lefts-init
-loop-lefts-init g c = record {
-  reads = Reads-start g.P.Copier.alike g.C.Compare.order (g.O.MergeOperation.connective c.args.op.now) c.args.a.now c.args.b.now (g.C.Compare.count c.args.cmp.now) c.args.next c.requires.stands;
-  left_is = slice_get_read c.args.a.now (length c.args.a.now) 0 c.copied.result refl c.requires.stands.0 (rw c.copied.ensures.same c.index-a-0.is);
-  right_is = slice_get_read c.args.b.now (length c.args.b.now) 0 c.copied-2.result refl c.requires.stands.1 (rw c.copied-2.ensures.same c.index-b-0.is);
-  within = omega arith;
-  at_most = omega arith;
-  behind = λ _. refl;
-  lefts_are = refl;
-  rights_are = refl;
-}
-
--- windows of nine items
-nine : {K : Type 0} (xs : List K) → 9 ≤ length xs → length (take 9 xs) ≡ 9
-nine xs some = length-take-le 9 xs some
-
-windows-fit : {K : Type 0} (xs ys : List K) → 9 ≤ length xs → 9 ≤ length ys → length (take 9 xs) + length (take 9 ys) < 2 ^ 65
-windows-fit xs ys some some' = omega (arith, nine xs some, nine ys some')
-
-length-room : {K : Type 0} (k : ℕ) (out : List K) → k ≤ length out → k + 8 ≤ length out → length (take (k + 8 - k) (drop k out)) ≡ 8
-length-room k out within eight = length-take-le (k + 8 - k) (drop k out) (omega (arith, length-drop k out, eight)) ∙ omega arith
-
-pub four_steps-four-requires-clause-fits : goal.four_steps-four-requires-clause-fits
-four_steps-four-requires-clause-fits g c = windows-fit _ _ (c.loop-lefts-test.ensures.lefts refl) (c.loop-lefts-test.ensures.rights refl)
-
-pub four_steps-eight-requires-clause-fits : goal.four_steps-eight-requires-clause-fits
-four_steps-eight-requires-clause-fits g c = windows-fit _ _ (c.loop-lefts-test.ensures.lefts refl) (c.loop-lefts-test.ensures.rights refl)
-
-pub four_steps-four-requires-clause-left_is : goal.four_steps-four-requires-clause-left_is
-four_steps-four-requires-clause-left_is g c = (rw c.loop-lefts.invariant.lefts_are (window-first 9 (drop c.loop-lefts.here.i c.args.a.now) c.loop-lefts.firsts.left (omega arith) c.loop-lefts.invariant.left_is))
-
-pub four_steps-four-requires-clause-right_is : goal.four_steps-four-requires-clause-right_is
-four_steps-four-requires-clause-right_is g c = (rw c.loop-lefts.invariant.rights_are (window-first 9 (drop c.loop-lefts.here.j c.args.b.now) c.loop-lefts.firsts.right (omega arith) c.loop-lefts.invariant.right_is))
-
-pub four_steps-eight-requires-clause-left_is : goal.four_steps-eight-requires-clause-left_is
-four_steps-eight-requires-clause-left_is g c = c.four_steps-four.ensures.steps.four.left_is
-
-pub four_steps-eight-requires-clause-right_is : goal.four_steps-eight-requires-clause-right_is
-four_steps-eight-requires-clause-right_is g c = c.four_steps-four.ensures.steps.four.right_is
-
-pub four_steps-eight-requires-clause-left_some : goal.four_steps-eight-requires-clause-left_some
-four_steps-eight-requires-clause-left_some g c = omega (arith, nine _ (c.loop-lefts-test.ensures.lefts refl), c.four_steps-four.ensures.left_within)
-
-pub four_steps-eight-requires-clause-right_some : goal.four_steps-eight-requires-clause-right_some
-four_steps-eight-requires-clause-right_some g c = omega (arith, nine _ (c.loop-lefts-test.ensures.rights refl), c.four_steps-four.ensures.right_within)
-
-pub four_steps-four-requires-clause-room : goal.four_steps-four-requires-clause-room
-four_steps-four-requires-clause-room g c =
-    let room_is : length (take (c.loop-lefts.here.k + 8 - c.loop-lefts.here.k) (drop c.loop-lefts.here.k c.loop-lefts.out)) ≡ 8 =
-    length-room c.loop-lefts.here.k c.loop-lefts.out c.loop-lefts.invariant.within (omega (arith, c.loop-lefts-test.ensures.room refl)) in
-    omega (arith, room_is)
-
-pub four_steps-eight-requires-clause-room : goal.four_steps-eight-requires-clause-room
-four_steps-eight-requires-clause-room g c =
-    let room_is : length (take (c.loop-lefts.here.k + 8 - c.loop-lefts.here.k) (drop c.loop-lefts.here.k c.loop-lefts.out)) ≡ 8 =
-    length-room c.loop-lefts.here.k c.loop-lefts.out c.loop-lefts.invariant.within (omega (arith, c.loop-lefts-test.ensures.room refl)) in
-    omega (arith, room_is, c.four_steps-four.ensures.within, c.four_steps-four.ensures.len)
-
-pub four_steps-four-requires-clause-made : goal.four_steps-four-requires-clause-made
-four_steps-four-requires-clause-made g c =
-    omega (arith, Reads-made g.P.Copier.alike g.C.Compare.order (g.O.MergeOperation.connective c.args.op.now) c.args.a.now c.args.b.now (omega arith) c.requires.fits c.requires.made c.loop-lefts.invariant.reads)
-
-pub four_steps-eight-requires-clause-made : goal.four_steps-eight-requires-clause-made
-four_steps-eight-requires-clause-made g c =
-    omega (arith, Reads-made g.P.Copier.alike g.C.Compare.order (g.O.MergeOperation.connective c.args.op.now) c.args.a.now c.args.b.now (omega arith) c.requires.fits c.requires.made c.loop-lefts.invariant.reads, c.four_steps-four.ensures.counted)
-
-pub returns-then-is_long-clause-read : goal.returns-then-is_long-clause-read
-returns-then-is_long-clause-read g c =
-    let room_is : length (take (c.loop-lefts.here.k + 8 - c.loop-lefts.here.k) (drop c.loop-lefts.here.k c.loop-lefts.out)) ≡ 8 =
-    length-room c.loop-lefts.here.k c.loop-lefts.out c.loop-lefts.invariant.within (omega (arith, c.loop-lefts-test.ensures.room refl)) in
-    let in_room : c.four_steps-four.result.k ≤ length c.four_steps-four.new.out = omega (arith, room_is, c.four_steps-four.ensures.within, c.four_steps-four.ensures.len) in
-    let four = Reads-four g.P.Copier.alike g.C.Compare.order (g.O.MergeOperation.connective c.args.op.now) c.args.a.now c.args.b.now g.met.C.Compare.total c.requires.left_ascending c.requires.right_ascending
-    9 9 c.loop-lefts.here.i c.loop-lefts.here.j 0 0 (take c.loop-lefts.here.k c.loop-lefts.out) _ _ (ap (take 9) c.loop-lefts.invariant.lefts_are) (ap (take 9) c.loop-lefts.invariant.rights_are)
-    (Reads-window g.P.Copier.alike g.C.Compare.order (g.O.MergeOperation.connective c.args.op.now) c.args.a.now c.args.b.now g.met.C.Compare.total c.requires.left_ascending c.requires.right_ascending c.loop-lefts.invariant.reads)
-    (rw c.loop-lefts.invariant.lefts_are (window-first 9 (drop c.loop-lefts.here.i c.args.a.now) c.loop-lefts.firsts.left (omega arith) c.loop-lefts.invariant.left_is))
-    (rw c.loop-lefts.invariant.rights_are (window-first 9 (drop c.loop-lefts.here.j c.args.b.now) c.loop-lefts.firsts.right (omega arith) c.loop-lefts.invariant.right_is))
-    c.four_steps-four.ensures.steps c.four_steps-four.ensures.counted in
-    let all = Reads-put g.P.Copier.alike g.C.Compare.order (g.O.MergeOperation.connective c.args.op.now) c.args.a.now c.args.b.now g.met.C.Compare.total c.requires.left_ascending c.requires.right_ascending (c.loop-lefts.here.k + 8 - c.loop-lefts.here.k) c.loop-lefts.here.k c.four_steps-four.result.k c.loop-lefts.out c.four_steps-four.new.out c.loop-lefts.invariant.within in_room four in
-    rw (c.beyond.ensures.lefts, c.beyond.ensures.rights, c.beyond.ensures.taken, c.beyond.ensures.next) all.read
-
-pub returns-then-is_long-clause-comparisons : goal.returns-then-is_long-clause-comparisons
-returns-then-is_long-clause-comparisons g c =
-    let four = Reads-four g.P.Copier.alike g.C.Compare.order (g.O.MergeOperation.connective c.args.op.now) c.args.a.now c.args.b.now g.met.C.Compare.total c.requires.left_ascending c.requires.right_ascending
-    9 9 c.loop-lefts.here.i c.loop-lefts.here.j 0 0 (take c.loop-lefts.here.k c.loop-lefts.out) _ _ (ap (take 9) c.loop-lefts.invariant.lefts_are) (ap (take 9) c.loop-lefts.invariant.rights_are)
-    (Reads-window g.P.Copier.alike g.C.Compare.order (g.O.MergeOperation.connective c.args.op.now) c.args.a.now c.args.b.now g.met.C.Compare.total c.requires.left_ascending c.requires.right_ascending c.loop-lefts.invariant.reads)
-    (rw c.loop-lefts.invariant.lefts_are (window-first 9 (drop c.loop-lefts.here.i c.args.a.now) c.loop-lefts.firsts.left (omega arith) c.loop-lefts.invariant.left_is))
-    (rw c.loop-lefts.invariant.rights_are (window-first 9 (drop c.loop-lefts.here.j c.args.b.now) c.loop-lefts.firsts.right (omega arith) c.loop-lefts.invariant.right_is))
-    c.four_steps-four.ensures.steps c.four_steps-four.ensures.counted in
-    rw (c.beyond.ensures.lefts, c.beyond.ensures.rights) (Reads-cost g.P.Copier.alike g.C.Compare.order (g.O.MergeOperation.connective c.args.op.now) c.args.a.now c.args.b.now (omega arith) four)
-
-pub returns-then-is_long-clause-at_most : goal.returns-then-is_long-clause-at_most
-returns-then-is_long-clause-at_most g c =
-    omega (arith, c.beyond.ensures.lefts, c.beyond.ensures.rights, c.beyond.ensures.taken, c.loop-lefts.invariant.at_most, c.four_steps-four.ensures.at_most)
-
-pub returns-then-is_long-clause-behind : goal.returns-then-is_long-clause-behind
-returns-then-is_long-clause-behind g c = λ keep.
-    let room_is : length (take (c.loop-lefts.here.k + 8 - c.loop-lefts.here.k) (drop c.loop-lefts.here.k c.loop-lefts.out)) ≡ 8 =
-    length-room c.loop-lefts.here.k c.loop-lefts.out c.loop-lefts.invariant.within (omega (arith, c.loop-lefts-test.ensures.room refl)) in
-    let in_room : c.four_steps-four.result.k ≤ length c.four_steps-four.new.out = omega (arith, room_is, c.four_steps-four.ensures.within, c.four_steps-four.ensures.len) in
-    rw c.beyond.ensures.taken (behind-window c.loop-lefts.here.k (c.loop-lefts.here.k + 8 - c.loop-lefts.here.k) c.four_steps-four.result.k c.args.out.now c.loop-lefts.out c.four_steps-four.new.out c.loop-lefts.invariant.within
-    in_room (omega (arith, room_is, c.four_steps-four.ensures.within)) (c.four_steps-four.ensures.behind keep) (c.loop-lefts.invariant.behind keep))
-
-pub returns-then-is_long-clause-made : goal.returns-then-is_long-clause-made
-returns-then-is_long-clause-made g c = omega (arith, c.loop-lefts.invariant.reads.at_least, c.four_steps-four.ensures.counted)
-
-pub returns-then-is_long-2-clause-read : goal.returns-then-is_long-2-clause-read
-returns-then-is_long-2-clause-read g c =
-    let room_is : length (take (c.loop-lefts.here.k + 8 - c.loop-lefts.here.k) (drop c.loop-lefts.here.k c.loop-lefts.out)) ≡ 8 =
-    length-room c.loop-lefts.here.k c.loop-lefts.out c.loop-lefts.invariant.within (omega (arith, c.loop-lefts-test.ensures.room refl)) in
-    let in_room : c.four_steps-eight.result.k ≤ length c.four_steps-eight.new.out = omega (arith, room_is, c.four_steps-four.ensures.within, c.four_steps-four.ensures.len, c.four_steps-eight.ensures.within, c.four_steps-eight.ensures.len) in
-    let four = Reads-four g.P.Copier.alike g.C.Compare.order (g.O.MergeOperation.connective c.args.op.now) c.args.a.now c.args.b.now g.met.C.Compare.total c.requires.left_ascending c.requires.right_ascending
-    9 9 c.loop-lefts.here.i c.loop-lefts.here.j 0 0 (take c.loop-lefts.here.k c.loop-lefts.out) _ _ (ap (take 9) c.loop-lefts.invariant.lefts_are) (ap (take 9) c.loop-lefts.invariant.rights_are)
-    (Reads-window g.P.Copier.alike g.C.Compare.order (g.O.MergeOperation.connective c.args.op.now) c.args.a.now c.args.b.now g.met.C.Compare.total c.requires.left_ascending c.requires.right_ascending c.loop-lefts.invariant.reads)
-    (rw c.loop-lefts.invariant.lefts_are (window-first 9 (drop c.loop-lefts.here.i c.args.a.now) c.loop-lefts.firsts.left (omega arith) c.loop-lefts.invariant.left_is))
-    (rw c.loop-lefts.invariant.rights_are (window-first 9 (drop c.loop-lefts.here.j c.args.b.now) c.loop-lefts.firsts.right (omega arith) c.loop-lefts.invariant.right_is))
-    c.four_steps-four.ensures.steps c.four_steps-four.ensures.counted in
-    let looked = Reads-looked g.P.Copier.alike g.C.Compare.order (g.O.MergeOperation.connective c.args.op.now) c.args.a.now c.args.b.now g.met.C.Compare.total c.requires.left_ascending c.requires.right_ascending
-    c.loop-lefts.here.i c.loop-lefts.here.j 0 0 c.four_steps-four.result.i c.four_steps-four.result.j four (λ long. false≢true (sym c.if-is_long.false ∙ c.is_long.ensures.1 long)) in
-    let eight = Reads-four g.P.Copier.alike g.C.Compare.order (g.O.MergeOperation.connective c.args.op.now) c.args.a.now c.args.b.now g.met.C.Compare.total c.requires.left_ascending c.requires.right_ascending
-    9 9 c.loop-lefts.here.i c.loop-lefts.here.j c.four_steps-four.result.i c.four_steps-four.result.j (take c.loop-lefts.here.k c.loop-lefts.out) _ _ (ap (take 9) c.loop-lefts.invariant.lefts_are) (ap (take 9) c.loop-lefts.invariant.rights_are)
-    looked c.four_steps-four.ensures.steps.four.left_is c.four_steps-four.ensures.steps.four.right_is c.four_steps-eight.ensures.steps c.four_steps-eight.ensures.counted in
-    let all = Reads-put g.P.Copier.alike g.C.Compare.order (g.O.MergeOperation.connective c.args.op.now) c.args.a.now c.args.b.now g.met.C.Compare.total c.requires.left_ascending c.requires.right_ascending (c.loop-lefts.here.k + 8 - c.loop-lefts.here.k) c.loop-lefts.here.k c.four_steps-eight.result.k c.loop-lefts.out c.four_steps-eight.new.out c.loop-lefts.invariant.within in_room eight in
-    rw (c.beyond-here.ensures.lefts, c.beyond-here.ensures.rights, c.beyond-here.ensures.taken, c.beyond-here.ensures.next) all.read
-
-pub returns-then-is_long-2-clause-comparisons : goal.returns-then-is_long-2-clause-comparisons
-returns-then-is_long-2-clause-comparisons g c =
-    let four = Reads-four g.P.Copier.alike g.C.Compare.order (g.O.MergeOperation.connective c.args.op.now) c.args.a.now c.args.b.now g.met.C.Compare.total c.requires.left_ascending c.requires.right_ascending
-    9 9 c.loop-lefts.here.i c.loop-lefts.here.j 0 0 (take c.loop-lefts.here.k c.loop-lefts.out) _ _ (ap (take 9) c.loop-lefts.invariant.lefts_are) (ap (take 9) c.loop-lefts.invariant.rights_are)
-    (Reads-window g.P.Copier.alike g.C.Compare.order (g.O.MergeOperation.connective c.args.op.now) c.args.a.now c.args.b.now g.met.C.Compare.total c.requires.left_ascending c.requires.right_ascending c.loop-lefts.invariant.reads)
-    (rw c.loop-lefts.invariant.lefts_are (window-first 9 (drop c.loop-lefts.here.i c.args.a.now) c.loop-lefts.firsts.left (omega arith) c.loop-lefts.invariant.left_is))
-    (rw c.loop-lefts.invariant.rights_are (window-first 9 (drop c.loop-lefts.here.j c.args.b.now) c.loop-lefts.firsts.right (omega arith) c.loop-lefts.invariant.right_is))
-    c.four_steps-four.ensures.steps c.four_steps-four.ensures.counted in
-    let looked = Reads-looked g.P.Copier.alike g.C.Compare.order (g.O.MergeOperation.connective c.args.op.now) c.args.a.now c.args.b.now g.met.C.Compare.total c.requires.left_ascending c.requires.right_ascending
-    c.loop-lefts.here.i c.loop-lefts.here.j 0 0 c.four_steps-four.result.i c.four_steps-four.result.j four (λ long. false≢true (sym c.if-is_long.false ∙ c.is_long.ensures.1 long)) in
-    let eight = Reads-four g.P.Copier.alike g.C.Compare.order (g.O.MergeOperation.connective c.args.op.now) c.args.a.now c.args.b.now g.met.C.Compare.total c.requires.left_ascending c.requires.right_ascending
-    9 9 c.loop-lefts.here.i c.loop-lefts.here.j c.four_steps-four.result.i c.four_steps-four.result.j (take c.loop-lefts.here.k c.loop-lefts.out) _ _ (ap (take 9) c.loop-lefts.invariant.lefts_are) (ap (take 9) c.loop-lefts.invariant.rights_are)
-    looked c.four_steps-four.ensures.steps.four.left_is c.four_steps-four.ensures.steps.four.right_is c.four_steps-eight.ensures.steps c.four_steps-eight.ensures.counted in
-    rw (c.beyond-here.ensures.lefts, c.beyond-here.ensures.rights) (Reads-cost g.P.Copier.alike g.C.Compare.order (g.O.MergeOperation.connective c.args.op.now) c.args.a.now c.args.b.now (omega arith) eight)
-
-pub returns-then-is_long-2-clause-at_most : goal.returns-then-is_long-2-clause-at_most
-returns-then-is_long-2-clause-at_most g c =
-    omega (arith, c.beyond-here.ensures.lefts, c.beyond-here.ensures.rights, c.beyond-here.ensures.taken, c.loop-lefts.invariant.at_most, c.four_steps-four.ensures.at_most, c.four_steps-eight.ensures.at_most)
-
-pub returns-then-is_long-2-clause-behind : goal.returns-then-is_long-2-clause-behind
-returns-then-is_long-2-clause-behind g c = λ keep.
-    let room_is : length (take (c.loop-lefts.here.k + 8 - c.loop-lefts.here.k) (drop c.loop-lefts.here.k c.loop-lefts.out)) ≡ 8 =
-    length-room c.loop-lefts.here.k c.loop-lefts.out c.loop-lefts.invariant.within (omega (arith, c.loop-lefts-test.ensures.room refl)) in
-    let in_room : c.four_steps-eight.result.k ≤ length c.four_steps-eight.new.out = omega (arith, room_is, c.four_steps-four.ensures.within, c.four_steps-four.ensures.len, c.four_steps-eight.ensures.within, c.four_steps-eight.ensures.len) in
-    rw c.beyond-here.ensures.taken (behind-window c.loop-lefts.here.k (c.loop-lefts.here.k + 8 - c.loop-lefts.here.k) c.four_steps-eight.result.k c.args.out.now c.loop-lefts.out c.four_steps-eight.new.out c.loop-lefts.invariant.within
-    in_room (omega (arith, room_is, c.four_steps-four.ensures.within, c.four_steps-eight.ensures.within)) (c.four_steps-eight.ensures.behind keep ∙ behind-more c.four_steps-four.result.k c.four_steps-eight.result.k c.four_steps-four.new.out (take (c.loop-lefts.here.k + 8 - c.loop-lefts.here.k) (drop c.loop-lefts.here.k c.loop-lefts.out)) c.four_steps-eight.ensures.from (c.four_steps-four.ensures.behind keep)) (c.loop-lefts.invariant.behind keep))
-
-pub returns-then-is_long-2-clause-made : goal.returns-then-is_long-2-clause-made
-returns-then-is_long-2-clause-made g c = omega (arith, c.loop-lefts.invariant.reads.at_least, c.four_steps-four.ensures.counted, c.four_steps-eight.ensures.counted)
-
-pub loop-lefts-preserved : goal.loop-lefts-preserved
-loop-lefts-preserved g c =
-    let room_is : length (take (c.loop-lefts.here.k + 8 - c.loop-lefts.here.k) (drop c.loop-lefts.here.k c.loop-lefts.out)) ≡ 8 =
-    length-room c.loop-lefts.here.k c.loop-lefts.out c.loop-lefts.invariant.within (omega (arith, c.loop-lefts-test.ensures.room refl)) in
-    let in_room : c.four_steps-eight.result.k ≤ length c.four_steps-eight.new.out = omega (arith, room_is, c.four_steps-four.ensures.within, c.four_steps-four.ensures.len, c.four_steps-eight.ensures.within, c.four_steps-eight.ensures.len) in
-    let four = Reads-four g.P.Copier.alike g.C.Compare.order (g.O.MergeOperation.connective c.args.op.now) c.args.a.now c.args.b.now g.met.C.Compare.total c.requires.left_ascending c.requires.right_ascending
-    9 9 c.loop-lefts.here.i c.loop-lefts.here.j 0 0 (take c.loop-lefts.here.k c.loop-lefts.out) _ _ (ap (take 9) c.loop-lefts.invariant.lefts_are) (ap (take 9) c.loop-lefts.invariant.rights_are)
-    (Reads-window g.P.Copier.alike g.C.Compare.order (g.O.MergeOperation.connective c.args.op.now) c.args.a.now c.args.b.now g.met.C.Compare.total c.requires.left_ascending c.requires.right_ascending c.loop-lefts.invariant.reads)
-    (rw c.loop-lefts.invariant.lefts_are (window-first 9 (drop c.loop-lefts.here.i c.args.a.now) c.loop-lefts.firsts.left (omega arith) c.loop-lefts.invariant.left_is))
-    (rw c.loop-lefts.invariant.rights_are (window-first 9 (drop c.loop-lefts.here.j c.args.b.now) c.loop-lefts.firsts.right (omega arith) c.loop-lefts.invariant.right_is))
-    c.four_steps-four.ensures.steps c.four_steps-four.ensures.counted in
-    let looked = Reads-looked g.P.Copier.alike g.C.Compare.order (g.O.MergeOperation.connective c.args.op.now) c.args.a.now c.args.b.now g.met.C.Compare.total c.requires.left_ascending c.requires.right_ascending
-    c.loop-lefts.here.i c.loop-lefts.here.j 0 0 c.four_steps-four.result.i c.four_steps-four.result.j four (λ long. false≢true (sym c.if-is_long.false ∙ c.is_long.ensures.1 long)) in
-    let eight = Reads-four g.P.Copier.alike g.C.Compare.order (g.O.MergeOperation.connective c.args.op.now) c.args.a.now c.args.b.now g.met.C.Compare.total c.requires.left_ascending c.requires.right_ascending
-    9 9 c.loop-lefts.here.i c.loop-lefts.here.j c.four_steps-four.result.i c.four_steps-four.result.j (take c.loop-lefts.here.k c.loop-lefts.out) _ _ (ap (take 9) c.loop-lefts.invariant.lefts_are) (ap (take 9) c.loop-lefts.invariant.rights_are)
-    looked c.four_steps-four.ensures.steps.four.left_is c.four_steps-four.ensures.steps.four.right_is c.four_steps-eight.ensures.steps c.four_steps-eight.ensures.counted in
-    let kept : length (put_mid c.loop-lefts.here.k (c.loop-lefts.here.k + 8 - c.loop-lefts.here.k) c.loop-lefts.out c.four_steps-eight.new.out) ≡ length c.loop-lefts.out =
-    same_len_mid c.loop-lefts.here.k (c.loop-lefts.here.k + 8 - c.loop-lefts.here.k) c.loop-lefts.out c.four_steps-eight.new.out (c.four_steps-eight.ensures.len ∙ c.four_steps-four.ensures.len) in
-    let looked_again = Reads-looked g.P.Copier.alike g.C.Compare.order (g.O.MergeOperation.connective c.args.op.now) c.args.a.now c.args.b.now g.met.C.Compare.total c.requires.left_ascending c.requires.right_ascending
-    c.loop-lefts.here.i c.loop-lefts.here.j c.four_steps-four.result.i c.four_steps-four.result.j c.four_steps-eight.result.i c.four_steps-eight.result.j
-    (Reads-put g.P.Copier.alike g.C.Compare.order (g.O.MergeOperation.connective c.args.op.now) c.args.a.now c.args.b.now g.met.C.Compare.total c.requires.left_ascending c.requires.right_ascending (c.loop-lefts.here.k + 8 - c.loop-lefts.here.k) c.loop-lefts.here.k c.four_steps-eight.result.k c.loop-lefts.out c.four_steps-eight.new.out c.loop-lefts.invariant.within in_room eight)
-    (λ long. false≢true (sym c.if-is_long-2.false ∙ c.is_long-in-loop-lefts.ensures.1 long)) in
+pub loop-firsts-init : goal.loop-firsts-init
+loop-firsts-init g c =
+    let a_some : c.args.from.i < length c.args.a.now = omega (arith, length-drop c.args.from.i c.args.a.now, c.requires.stands.0) in
+    let b_some : c.args.from.j < length c.args.b.now = omega (arith, length-drop c.args.from.j c.args.b.now, c.requires.stands.1) in
+    let i_is : c.args.from.i - c.args.from.i % 2 + c.from_even-at.result.i ≡ c.args.from.i = parted c.args.from.i c.from_even-at.ensures.lefts in
+    let j_is : c.args.from.j - c.args.from.j % 2 + c.from_even-at.result.j ≡ c.args.from.j = parted c.args.from.j c.from_even-at.ensures.rights in
+    let p = c.args.from.i - c.args.from.i % 2 in
+    let q = c.args.from.j - c.args.from.j % 2 in
+    let lefts = take (length c.args.a.now - p) (drop p c.args.a.now) in
+    let rights = take (length c.args.b.now - q) (drop q c.args.b.now) in
+    let lefts_are : lefts ≡ drop p c.args.a.now = take_rest c.args.a.now p in
+    let rights_are : rights ≡ drop q c.args.b.now = take_rest c.args.b.now q in
     record {
-      reads = rw (c.beyond-here.ensures.lefts, c.beyond-here.ensures.rights, c.beyond-here.ensures.taken, c.beyond-here.ensures.next) looked_again;
-      left_is = rw c.beyond-here.ensures.lefts (first-of_window 9 c.loop-lefts.here.i c.four_steps-eight.result.i c.args.a.now c.four_steps-eight.new.firsts.left (rw c.loop-lefts.invariant.lefts_are at c.four_steps-eight.ensures.steps.four.left_is));
-      right_is = rw c.beyond-here.ensures.rights (first-of_window 9 c.loop-lefts.here.j c.four_steps-eight.result.j c.args.b.now c.four_steps-eight.new.firsts.right (rw c.loop-lefts.invariant.rights_are at c.four_steps-eight.ensures.steps.four.right_is));
-      within = omega (arith, c.beyond-here.ensures.taken, kept, c.loop-lefts-test.ensures.room refl, c.four_steps-four.ensures.within, c.four_steps-eight.ensures.within);
-      at_most = omega (arith, c.beyond-here.ensures.lefts, c.beyond-here.ensures.rights, c.beyond-here.ensures.taken, c.loop-lefts.invariant.at_most, c.four_steps-four.ensures.at_most, c.four_steps-eight.ensures.at_most);
-      behind = λ keep. rw c.beyond-here.ensures.taken (behind-window c.loop-lefts.here.k (c.loop-lefts.here.k + 8 - c.loop-lefts.here.k) c.four_steps-eight.result.k c.args.out.now c.loop-lefts.out c.four_steps-eight.new.out c.loop-lefts.invariant.within
-          in_room (omega (arith, room_is, c.four_steps-four.ensures.within, c.four_steps-eight.ensures.within)) (c.four_steps-eight.ensures.behind keep ∙ behind-more c.four_steps-four.result.k c.four_steps-eight.result.k c.four_steps-four.new.out (take (c.loop-lefts.here.k + 8 - c.loop-lefts.here.k) (drop c.loop-lefts.here.k c.loop-lefts.out)) c.four_steps-eight.ensures.from (c.four_steps-four.ensures.behind keep)) (c.loop-lefts.invariant.behind keep));
-      lefts_are = rw c.beyond-here.ensures.lefts (take_rest c.loop-lefts.lefts.now c.four_steps-eight.result.i ∙ ap (drop c.four_steps-eight.result.i) c.loop-lefts.invariant.lefts_are ∙ drop-drop c.four_steps-eight.result.i c.loop-lefts.here.i c.args.a.now);
-      rights_are = rw c.beyond-here.ensures.rights (take_rest c.loop-lefts.rights.now c.four_steps-eight.result.j ∙ ap (drop c.four_steps-eight.result.j) c.loop-lefts.invariant.rights_are ∙ drop-drop c.four_steps-eight.result.j c.loop-lefts.here.j c.args.b.now);
+      p = p;
+      q = q;
+      lefts_are = lefts_are;
+      rights_are = rights_are;
+      p_within = omega (arith, a_some);
+      q_within = omega (arith, b_some);
+      p_even = even-part c.args.from.i;
+      q_even = even-part c.args.from.j;
+      i_few = one-few c.args.from.i c.from_even-at.ensures.lefts;
+      j_few = one-few c.args.from.j c.from_even-at.ensures.rights;
+      reads = rw (i_is, j_is, c.from_even-at.ensures.next, c.from_even-at.ensures.taken)
+          (Reads-start g.P.Copier.alike g.C.Compare.order (g.O.MergeOperation.connective c.args.op.now) c.args.a.now c.args.b.now c.args.from.i c.args.from.j (g.C.Compare.count c.args.cmp.now) c.args.from.next c.requires.stands);
+      left_is = slice_get_read lefts (length lefts) c.from_even-at.result.i c.copied.result refl (omega (arith, ap length lefts_are, length-drop p c.args.a.now, i_is, a_some)) (rw c.copied.ensures.same c.index-lefts-at.is);
+      right_is = slice_get_read rights (length rights) c.from_even-at.result.j c.copied-2.result refl (omega (arith, ap length rights_are, length-drop q c.args.b.now, j_is, b_some)) (rw c.copied-2.ensures.same c.index-rights-at.is);
+      within = omega (arith, c.from_even-at.ensures.taken);
+      at_most = omega (arith, i_is, j_is, c.from_even-at.ensures.taken);
+      behind = λ _. refl;
+    }
+
+pub overflow_sub-out : goal.overflow_sub-out
+overflow_sub-out g c =
+    c.loop-firsts.invariant.within
+
+pub sixteen_steps-read-requires-clause-made : goal.sixteen_steps-read-requires-clause-made
+sixteen_steps-read-requires-clause-made g c =
+    omega (arith, Reads-made g.P.Copier.alike g.C.Compare.order (g.O.MergeOperation.connective c.args.op.now) c.args.a.now c.args.b.now c.args.from.i c.args.from.j
+    (omega arith) c.requires.fits c.requires.made c.loop-firsts.invariant.reads)
+
+pub overflow_sub-a : goal.overflow_sub-a
+overflow_sub-a g c =
+    let inv = c.loop-firsts.invariant in
+    omega (arith, before-rest inv.p c.args.a.now c.loop-firsts.lefts.now inv.lefts_are inv.p_within)
+
+pub overflow_sub-b : goal.overflow_sub-b
+overflow_sub-b g c =
+    let inv = c.loop-firsts.invariant in
+    omega (arith, before-rest inv.q c.args.b.now c.loop-firsts.rights.now inv.rights_are inv.q_within)
+
+pub overflow_sub-a-2 : goal.overflow_sub-a-2
+overflow_sub-a-2 g c =
+    let inv = c.loop-firsts.invariant in
+    omega (arith, before-rest inv.p c.args.a.now c.loop-firsts.lefts.now inv.lefts_are inv.p_within)
+
+pub overflow_sub-b-2 : goal.overflow_sub-b-2
+overflow_sub-b-2 g c =
+    let inv = c.loop-firsts.invariant in
+    omega (arith, before-rest inv.q c.args.b.now c.loop-firsts.rights.now inv.rights_are inv.q_within)
+
+pub returns-then-read-clause-read : goal.returns-then-read-clause-read
+returns-then-read-clause-read g c =
+    let inv = c.loop-firsts.invariant in
+    let y = c.sixteen_steps-read.result.at in
+    let steps = c.sixteen_steps-read.ensures in
+    let before_a : length c.args.a.now ≡ length c.loop-firsts.lefts.now + inv.p = before-rest inv.p c.args.a.now c.loop-firsts.lefts.now inv.lefts_are inv.p_within in
+    let before_b : length c.args.b.now ≡ length c.loop-firsts.rights.now + inv.q = before-rest inv.q c.args.b.now c.loop-firsts.rights.now inv.rights_are inv.q_within in
+    let came = Came-sixteen g.P.Copier.alike g.C.Compare.order (g.O.MergeOperation.connective c.args.op.now) c.args.a.now c.args.b.now c.args.from.i c.args.from.j (g.C.Compare.count c.args.cmp.now)
+    inv.p inv.q g.met.C.Compare.total c.requires.left_ascending c.requires.right_ascending inv.p_even inv.q_even _ _ inv.reads (rw (inv.lefts_are, inv.rights_are) at steps.steps) in
+    let i_is : c.behind.result.i ≡ inv.p + y.i = omega (arith, c.behind.ensures.lefts, before_a) in
+    let j_is : c.behind.result.j ≡ inv.q + y.j = omega (arith, c.behind.ensures.rights, before_b) in
+    rw (i_is, j_is, c.behind.ensures.taken, c.behind.ensures.next) came.reads.read
+
+pub returns-then-read-clause-comparisons : goal.returns-then-read-clause-comparisons
+returns-then-read-clause-comparisons g c =
+    let inv = c.loop-firsts.invariant in
+    let y = c.sixteen_steps-read.result.at in
+    let steps = c.sixteen_steps-read.ensures in
+    let before_a : length c.args.a.now ≡ length c.loop-firsts.lefts.now + inv.p = before-rest inv.p c.args.a.now c.loop-firsts.lefts.now inv.lefts_are inv.p_within in
+    let before_b : length c.args.b.now ≡ length c.loop-firsts.rights.now + inv.q = before-rest inv.q c.args.b.now c.loop-firsts.rights.now inv.rights_are inv.q_within in
+    let came = Came-sixteen g.P.Copier.alike g.C.Compare.order (g.O.MergeOperation.connective c.args.op.now) c.args.a.now c.args.b.now c.args.from.i c.args.from.j (g.C.Compare.count c.args.cmp.now)
+    inv.p inv.q g.met.C.Compare.total c.requires.left_ascending c.requires.right_ascending inv.p_even inv.q_even _ _ inv.reads (rw (inv.lefts_are, inv.rights_are) at steps.steps) in
+    let i_is : c.behind.result.i ≡ inv.p + y.i = omega (arith, c.behind.ensures.lefts, before_a) in
+    let j_is : c.behind.result.j ≡ inv.q + y.j = omega (arith, c.behind.ensures.rights, before_b) in
+    rw (i_is, j_is) (Reads-cost g.P.Copier.alike g.C.Compare.order (g.O.MergeOperation.connective c.args.op.now) c.args.a.now c.args.b.now c.args.from.i c.args.from.j came.few came.reads)
+
+pub returns-then-read-clause-made : goal.returns-then-read-clause-made
+returns-then-read-clause-made g c =
+    let inv = c.loop-firsts.invariant in
+    let y = c.sixteen_steps-read.result.at in
+    let steps = c.sixteen_steps-read.ensures in
+    let before_a : length c.args.a.now ≡ length c.loop-firsts.lefts.now + inv.p = before-rest inv.p c.args.a.now c.loop-firsts.lefts.now inv.lefts_are inv.p_within in
+    let before_b : length c.args.b.now ≡ length c.loop-firsts.rights.now + inv.q = before-rest inv.q c.args.b.now c.loop-firsts.rights.now inv.rights_are inv.q_within in
+    let came = Came-sixteen g.P.Copier.alike g.C.Compare.order (g.O.MergeOperation.connective c.args.op.now) c.args.a.now c.args.b.now c.args.from.i c.args.from.j (g.C.Compare.count c.args.cmp.now)
+    inv.p inv.q g.met.C.Compare.total c.requires.left_ascending c.requires.right_ascending inv.p_even inv.q_even _ _ inv.reads (rw (inv.lefts_are, inv.rights_are) at steps.steps) in
+    came.reads.at_least
+
+pub returns-then-read-clause-within : goal.returns-then-read-clause-within
+returns-then-read-clause-within g c =
+    rw c.behind.ensures.taken c.sixteen_steps-read.ensures.within
+
+pub returns-then-read-clause-at_most : goal.returns-then-read-clause-at_most
+returns-then-read-clause-at_most g c =
+    let inv = c.loop-firsts.invariant in
+    let y = c.sixteen_steps-read.result.at in
+    let steps = c.sixteen_steps-read.ensures in
+    let before_a : length c.args.a.now ≡ length c.loop-firsts.lefts.now + inv.p = before-rest inv.p c.args.a.now c.loop-firsts.lefts.now inv.lefts_are inv.p_within in
+    let before_b : length c.args.b.now ≡ length c.loop-firsts.rights.now + inv.q = before-rest inv.q c.args.b.now c.loop-firsts.rights.now inv.rights_are inv.q_within in
+    let came = Came-sixteen g.P.Copier.alike g.C.Compare.order (g.O.MergeOperation.connective c.args.op.now) c.args.a.now c.args.b.now c.args.from.i c.args.from.j (g.C.Compare.count c.args.cmp.now)
+    inv.p inv.q g.met.C.Compare.total c.requires.left_ascending c.requires.right_ascending inv.p_even inv.q_even _ _ inv.reads (rw (inv.lefts_are, inv.rights_are) at steps.steps) in
+    let i_is : c.behind.result.i ≡ inv.p + y.i = omega (arith, c.behind.ensures.lefts, before_a) in
+    let j_is : c.behind.result.j ≡ inv.q + y.j = omega (arith, c.behind.ensures.rights, before_b) in
+    omega (arith, i_is, j_is, c.behind.ensures.taken, inv.at_most, steps.at_most)
+
+pub returns-then-read-clause-behind : goal.returns-then-read-clause-behind
+returns-then-read-clause-behind g c =
+    let inv = c.loop-firsts.invariant in
+    let steps = c.sixteen_steps-read.ensures in
+    λ keep. rw c.behind.ensures.taken (steps.behind keep ∙ behind-more c.loop-firsts.at.k c.sixteen_steps-read.result.at.k c.loop-firsts.out c.args.out.now steps.from (inv.behind keep))
+
+pub loop-firsts-preserved : goal.loop-firsts-preserved
+loop-firsts-preserved g c =
+    let inv = c.loop-firsts.invariant in
+    let y = c.sixteen_steps-read.result.at in
+    let steps = c.sixteen_steps-read.ensures in
+    let before_a : length c.args.a.now ≡ length c.loop-firsts.lefts.now + inv.p = before-rest inv.p c.args.a.now c.loop-firsts.lefts.now inv.lefts_are inv.p_within in
+    let before_b : length c.args.b.now ≡ length c.loop-firsts.rights.now + inv.q = before-rest inv.q c.args.b.now c.loop-firsts.rights.now inv.rights_are inv.q_within in
+    let came = Came-sixteen g.P.Copier.alike g.C.Compare.order (g.O.MergeOperation.connective c.args.op.now) c.args.a.now c.args.b.now c.args.from.i c.args.from.j (g.C.Compare.count c.args.cmp.now)
+    inv.p inv.q g.met.C.Compare.total c.requires.left_ascending c.requires.right_ascending inv.p_even inv.q_even _ _ inv.reads (rw (inv.lefts_are, inv.rights_are) at steps.steps) in
+    let rest_a = take_rest c.loop-firsts.lefts.now (y.i - y.i % 2) in
+    let rest_b = take_rest c.loop-firsts.rights.now (y.j - y.j % 2) in
+    let i_some : y.i < length c.loop-firsts.lefts.now = slice_get_within c.loop-firsts.lefts.now y.i c.sixteen_steps-read.new.firsts.left steps.left_is in
+    let j_some : y.j < length c.loop-firsts.rights.now = slice_get_within c.loop-firsts.rights.now y.j c.sixteen_steps-read.new.firsts.right steps.right_is in
+    let i_is : inv.p + (y.i - y.i % 2) + c.from_even-at-in-loop-firsts.result.i ≡ inv.p + y.i = omega (arith, parted y.i c.from_even-at-in-loop-firsts.ensures.lefts) in
+    let j_is : inv.q + (y.j - y.j % 2) + c.from_even-at-in-loop-firsts.result.j ≡ inv.q + y.j = omega (arith, parted y.j c.from_even-at-in-loop-firsts.ensures.rights) in
+    record {
+      p = inv.p + (y.i - y.i % 2);
+      q = inv.q + (y.j - y.j % 2);
+      lefts_are = rest_a ∙ ap (drop (y.i - y.i % 2)) inv.lefts_are ∙ drop-drop (y.i - y.i % 2) inv.p c.args.a.now;
+      rights_are = rest_b ∙ ap (drop (y.j - y.j % 2)) inv.rights_are ∙ drop-drop (y.j - y.j % 2) inv.q c.args.b.now;
+      p_within = omega (arith, before_a, i_some);
+      q_within = omega (arith, before_b, j_some);
+      p_even = even-then inv.p y.i inv.p_even;
+      q_even = even-then inv.q y.j inv.q_even;
+      i_few = one-few y.i c.from_even-at-in-loop-firsts.ensures.lefts;
+      j_few = one-few y.j c.from_even-at-in-loop-firsts.ensures.rights;
+      reads = rw (i_is, j_is, c.from_even-at-in-loop-firsts.ensures.taken, c.from_even-at-in-loop-firsts.ensures.next) (came.on c.if-read.false);
+      left_is = rw rest_a (item-behind (y.i - y.i % 2) c.from_even-at-in-loop-firsts.result.i y.i c.loop-firsts.lefts.now c.sixteen_steps-read.new.firsts.left (parted y.i c.from_even-at-in-loop-firsts.ensures.lefts) steps.left_is);
+      right_is = rw rest_b (item-behind (y.j - y.j % 2) c.from_even-at-in-loop-firsts.result.j y.j c.loop-firsts.rights.now c.sixteen_steps-read.new.firsts.right (parted y.j c.from_even-at-in-loop-firsts.ensures.rights) steps.right_is);
+      within = rw c.from_even-at-in-loop-firsts.ensures.taken steps.within;
+      at_most = omega (arith, i_is, j_is, c.from_even-at-in-loop-firsts.ensures.taken, inv.at_most, steps.at_most);
+      behind = λ keep. rw c.from_even-at-in-loop-firsts.ensures.taken (steps.behind keep ∙ behind-more c.loop-firsts.at.k y.k c.loop-firsts.out c.args.out.now steps.from (inv.behind keep));
     }
 
 pub returns-clause-read : goal.returns-clause-read
-returns-clause-read g c = c.loop-lefts.invariant.reads.read
+returns-clause-read g c =
+    let inv = c.loop-firsts.invariant in
+    let before_a = before-rest inv.p c.args.a.now c.loop-firsts.lefts.now inv.lefts_are inv.p_within in
+    let before_b = before-rest inv.q c.args.b.now c.loop-firsts.rights.now inv.rights_are inv.q_within in
+    let i_is : c.behind-2.result.i ≡ inv.p + c.loop-firsts.at.i = omega (arith, c.behind-2.ensures.lefts, before_a) in
+    let j_is : c.behind-2.result.j ≡ inv.q + c.loop-firsts.at.j = omega (arith, c.behind-2.ensures.rights, before_b) in
+    rw (i_is, j_is, c.behind-2.ensures.taken, c.behind-2.ensures.next) inv.reads.read
 
 pub returns-clause-comparisons : goal.returns-clause-comparisons
-returns-clause-comparisons g c = Reads-cost g.P.Copier.alike g.C.Compare.order (g.O.MergeOperation.connective c.args.op.now) c.args.a.now c.args.b.now (omega arith) c.loop-lefts.invariant.reads
+returns-clause-comparisons g c =
+    let inv = c.loop-firsts.invariant in
+    let before_a = before-rest inv.p c.args.a.now c.loop-firsts.lefts.now inv.lefts_are inv.p_within in
+    let before_b = before-rest inv.q c.args.b.now c.loop-firsts.rights.now inv.rights_are inv.q_within in
+    let i_is : c.behind-2.result.i ≡ inv.p + c.loop-firsts.at.i = omega (arith, c.behind-2.ensures.lefts, before_a) in
+    let j_is : c.behind-2.result.j ≡ inv.q + c.loop-firsts.at.j = omega (arith, c.behind-2.ensures.rights, before_b) in
+    rw (i_is, j_is) (Reads-cost g.P.Copier.alike g.C.Compare.order (g.O.MergeOperation.connective c.args.op.now) c.args.a.now c.args.b.now c.args.from.i c.args.from.j (omega arith) inv.reads)
 
 pub returns-clause-made : goal.returns-clause-made
-returns-clause-made g c = c.loop-lefts.invariant.reads.at_least
+returns-clause-made g c =
+    c.loop-firsts.invariant.reads.at_least
 
 pub returns-clause-within : goal.returns-clause-within
-returns-clause-within g c = c.loop-lefts.invariant.within
+returns-clause-within g c =
+    rw c.behind-2.ensures.taken c.loop-firsts.invariant.within
 
 pub returns-clause-at_most : goal.returns-clause-at_most
-returns-clause-at_most g c = c.loop-lefts.invariant.at_most
+returns-clause-at_most g c =
+    let inv = c.loop-firsts.invariant in
+    let before_a = before-rest inv.p c.args.a.now c.loop-firsts.lefts.now inv.lefts_are inv.p_within in
+    let before_b = before-rest inv.q c.args.b.now c.loop-firsts.rights.now inv.rights_are inv.q_within in
+    let i_is : c.behind-2.result.i ≡ inv.p + c.loop-firsts.at.i = omega (arith, c.behind-2.ensures.lefts, before_a) in
+    let j_is : c.behind-2.result.j ≡ inv.q + c.loop-firsts.at.j = omega (arith, c.behind-2.ensures.rights, before_b) in
+    omega (arith, i_is, j_is, c.behind-2.ensures.taken, inv.at_most)
 
 pub returns-clause-behind : goal.returns-clause-behind
-returns-clause-behind g c = c.loop-lefts.invariant.behind
+returns-clause-behind g c =
+    λ keep. rw c.behind-2.ensures.taken (c.loop-firsts.invariant.behind keep)
+
+pub loop-firsts-smaller : goal.loop-firsts-smaller
+loop-firsts-smaller g c =
+    let y = c.sixteen_steps-read.result.at in
+    let steps = c.sixteen_steps-read.ensures in
+    let lefts = c.loop-firsts.lefts.now in
+    let rights = c.loop-firsts.rights.now in
+    let reads : c.loop-firsts.at.i + c.loop-firsts.at.j + 4 ≤ y.i + y.j = AreSixteen-reads g.P.Copier.alike g.C.Compare.order (g.O.MergeOperation.connective c.args.op.now) lefts rights _ _ refl steps.steps in
+    omega (
+      arith,
+      reads,
+      ap length (take_rest lefts (y.i - y.i % 2)),
+      ap length (take_rest rights (y.j - y.j % 2)),
+      length-drop (y.i - y.i % 2) lefts,
+      length-drop (y.j - y.j % 2) rights,
+      slice_get_within lefts y.i c.sixteen_steps-read.new.firsts.left steps.left_is,
+      slice_get_within rights y.j c.sixteen_steps-read.new.firsts.right steps.right_is,
+    )

@@ -10,9 +10,8 @@ use crate::generated::range_merge::merge_state::over_slices::SliceMergeState;
 use crate::generated::range_merge::merge_state::reading::{Room, Singly};
 use crate::generated::range_merge::merging;
 use crate::generated::range_merge::operations::MergeOperation;
-use crate::generated::range_merge::singly::{read_singly, ReadSoFar, Relative};
+use crate::generated::range_merge::singly::{read_singly, ReadSoFar};
 use crate::support::AllocError;
-use core::cmp::Ordering;
 use core::mem::size_of_val;
 
 /// A state that writes the items that are taken into a borrowed slice, and counts them. It never
@@ -173,14 +172,14 @@ impl<'o, K: Copy, O: MergeOperation, C: Compare<K>> Room<K, (), ByCopy, O, C> fo
         &mut self,
         a: &[K],
         b: &[K],
-        next: Ordering,
-        op: &Relative<'_, O>,
+        from: ReadSoFar,
+        op: &O,
         copier: &ByCopy,
         cmp: C,
         _n: usize,
     ) -> Done<C, ReadSoFar> {
         let at = self.given.min(self.items.len());
-        let read = read_behind(a, b, next, op, copier, cmp, &mut self.items[at..]);
+        let read = read_behind(a, b, from, op, copier, cmp, &mut self.items[at..]);
         self.given += read.answer.k;
         read
     }
@@ -191,14 +190,14 @@ impl<'o, K: Copy, O: MergeOperation, C: Compare<K>> Room<K, (), ByCopy, O, C> fo
 fn read_behind<K: Copy, O: MergeOperation, C: Compare<K>>(
     a: &[K],
     b: &[K],
-    next: Ordering,
-    op: &Relative<'_, O>,
+    from: ReadSoFar,
+    op: &O,
     copier: &ByCopy,
     cmp: C,
     out: &mut [K],
 ) -> Done<C, ReadSoFar> {
     let mut cmp = cmp;
-    let answer = read_singly(a, b, next, op, copier, &mut cmp, out, true);
+    let answer = read_singly(a, b, from, op, copier, &mut cmp, out, true);
     Done { cmp, answer }
 }
 

@@ -8,9 +8,8 @@ use crate::generated::range_merge::merge_state::over_slices::SliceMergeState;
 use crate::generated::range_merge::merge_state::reading::{Room, Singly};
 use crate::generated::range_merge::merging;
 use crate::generated::range_merge::operations::MergeOperation;
-use crate::generated::range_merge::singly::{read_singly, ReadSoFar, Relative};
+use crate::generated::range_merge::singly::{read_singly, ReadSoFar};
 use crate::support::AllocError;
-use core::cmp::Ordering;
 
 /// A slice that is written over from its front. It has room for all that it is given.
 pub struct Overwritten<'o, K> {
@@ -37,13 +36,13 @@ impl<'o, 'p, K, P: Copier<K>, O: MergeOperation, C: Compare<K>> Room<K, &'p P, P
         &mut self,
         a: &[K],
         b: &[K],
-        next: Ordering,
-        op: &Relative<'_, O>,
+        from: ReadSoFar,
+        op: &O,
         copier: &P,
         cmp: C,
         _n: usize,
     ) -> Done<C, ReadSoFar> {
-        let read = read_over(&mut self.items[self.given..], cmp, a, b, next, op, copier);
+        let read = read_over(&mut self.items[self.given..], cmp, a, b, from, op, copier);
         self.given += read.answer.k;
         read
     }
@@ -98,12 +97,12 @@ fn read_over<K, P: Copier<K>, O: MergeOperation, C: Compare<K>>(
     cmp: C,
     a: &[K],
     b: &[K],
-    next: Ordering,
-    op: &Relative<'_, O>,
+    from: ReadSoFar,
+    op: &O,
     by: &P,
 ) -> Done<C, ReadSoFar> {
     let mut cmp = cmp;
-    let answer = read_singly(a, b, next, op, by, &mut cmp, out, false);
+    let answer = read_singly(a, b, from, op, by, &mut cmp, out, false);
     Done { cmp, answer }
 }
 

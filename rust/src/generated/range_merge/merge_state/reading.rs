@@ -9,7 +9,7 @@ use crate::generated::range_merge::merge_state::MergeState;
 use crate::generated::range_merge::operations::MergeOperation;
 use crate::generated::range_merge::pacing::{are_few, Rounds};
 use crate::generated::range_merge::short_runs::ShortRuns;
-use crate::generated::range_merge::singly::{copied, read_singly, ReadSoFar, Relative};
+use crate::generated::range_merge::singly::{copied, read_singly, ReadSoFar};
 use crate::support::Vec;
 use core::cmp::Ordering;
 use core::marker::PhantomData;
@@ -19,15 +19,14 @@ use core::mem;
 pub(crate) trait Room<K, By, P: Copier<K>, O: MergeOperation, C: Compare<K>>:
     Output<K, By>
 {
-    /// Reads short runs from the starts of both slices on, as far as there is room, and counts what
-    /// is taken as given. It may make room for `n` items. The slices begin where the sides stand as
-    /// `op` says.
+    /// Reads short runs of both slices, which begin at even places, from a place on, as far as there
+    /// is room, and counts what is taken as given. It may make room for `n` items.
     fn read(
         &mut self,
         a: &[K],
         b: &[K],
-        next: Ordering,
-        op: &Relative<'_, O>,
+        from: ReadSoFar,
+        op: &O,
         copier: &P,
         cmp: C,
         n: usize,
@@ -39,8 +38,8 @@ struct Reading<'r, K, By, P: Copier<K>, O: MergeOperation, L> {
     output: &'r mut L,
     a: &'r [K],
     b: &'r [K],
-    next: Ordering,
-    op: &'r Relative<'r, O>,
+    from: ReadSoFar,
+    op: &'r O,
     copier: &'r P,
     n: usize,
     by: PhantomData<By>,
@@ -54,12 +53,12 @@ impl<'r, K, By, P: Copier<K>, O: MergeOperation, C: Compare<K>, L: Room<K, By, P
     #[inline(always)]
     fn run(&mut self, cmp: C) -> Done<C, ReadSoFar> {
         self.output
-            .read(self.a, self.b, self.next, self.op, self.copier, cmp, self.n)
+            .read(self.a, self.b, self.from, self.op, self.copier, cmp, self.n)
     }
 
     #[inline(always)]
     fn undone(&self) -> ReadSoFar {
-        ReadSoFar::start(self.next)
+        self.from
     }
 }
 
@@ -94,7 +93,7 @@ impl<'p, K, P: Copier<K>> Singly<'p, K, P> {
     #[inline(always)]
     fn learn(&mut self, at: ReadSoFar) {
         self.rounds.learn(at);
-        self.room = if self.room - at.k.min(self.room) < 8 {
+        self.room = if self.room - at.k.min(self.room) < 16 {
             self.room.saturating_mul(2)
         } else {
             ROOM
@@ -124,13 +123,23 @@ impl<'a, 'p, K, P: Copier<K>, By, L: Room<K, By, P, O, C>, O: MergeOperation, C:
         if self.rounds.were_long(state.a_len()) {
             return next;
         }
-        let at = read_short_runs(state, self.copier, self.room, op, next, cmp);
-        self.learn(at);
-        at.next
+        // There is an item before the first unread one where an odd number was read.
+        let a = match state.a.from_even(state.ac) {
+            Some(a) => a,
+            _ => return next,
+        };
+        let b = match state.b.from_even(state.bc) {
+            Some(b) => b,
+            _ => return next,
+        };
+        let read = read_short_runs(state, a, b, self.copier, self.room, op, next, cmp);
+        self.learn(read);
+        read.next
     }
 }
 
-// Reads short runs of a state, with room for `n` items, and returns how far it came.
+// Reads short runs of a state, whose unread items are given from the last even places on, with room
+// for `n` items, and returns how many items were read.
 #[inline(always)]
 fn read_short_runs<
     K,
@@ -141,35 +150,37 @@ fn read_short_runs<
     C: Compare<K>,
 >(
     state: &mut SliceMergeState<'_, K, L, By>,
+    a: &[K],
+    b: &[K],
     copier: &P,
     n: usize,
     op: &O,
     next: Ordering,
     cmp: &mut C,
 ) -> ReadSoFar {
-    let op = &Relative {
-        op,
-        ac: state.ac,
-        bc: state.bc,
-    };
-    let a = state.a.as_slice();
-    let b = state.b.as_slice();
+    let from = ReadSoFar::unread(state.ac, state.bc, next);
     // By value, so that the merge can keep its own counter in registers.
     let at = cmp.apart(&mut Reading {
         output: &mut state.output,
         a,
         b,
-        next,
+        from,
         op,
         copier,
         n,
         by: PhantomData,
     });
-    state.a.drop_front(at.i);
-    state.b.drop_front(at.j);
-    state.ac = state.ac != (at.i % 2 == 1);
-    state.bc = state.bc != (at.j % 2 == 1);
-    at
+    let read = ReadSoFar {
+        i: at.i - from.i,
+        j: at.j - from.j,
+        k: at.k,
+        next: at.next,
+    };
+    state.a.drop_front(read.i);
+    state.b.drop_front(read.j);
+    state.ac = at.i % 2 == 1;
+    state.bc = at.j % 2 == 1;
+    read
 }
 
 impl<'a, K, P: Copier<K>, O: MergeOperation, C: Compare<K>> Room<K, Copying<'a, P>, P, O, C>
@@ -180,8 +191,8 @@ impl<'a, K, P: Copier<K>, O: MergeOperation, C: Compare<K>> Room<K, Copying<'a, 
         &mut self,
         a: &[K],
         b: &[K],
-        next: Ordering,
-        op: &Relative<'_, O>,
+        from: ReadSoFar,
+        op: &O,
         copier: &P,
         cmp: C,
         n: usize,
@@ -189,7 +200,7 @@ impl<'a, K, P: Copier<K>, O: MergeOperation, C: Compare<K>> Room<K, Copying<'a, 
         let alloc = *self.allocator();
         // The list goes by value, so that the merge can keep its own in registers.
         let list = mem::replace(self, Vec::new(alloc));
-        let read = read_into(list, cmp, a, b, next, op, copier, n);
+        let read = read_into(list, cmp, a, b, from, op, copier, n);
         *self = read.list;
         Done {
             cmp: read.cmp,
@@ -212,8 +223,8 @@ fn read_into<K, P: Copier<K>, O: MergeOperation, C: Compare<K>>(
     cmp: C,
     a: &[K],
     b: &[K],
-    next: Ordering,
-    op: &Relative<'_, O>,
+    from: ReadSoFar,
+    op: &O,
     by: &P,
     room: usize,
 ) -> ReadInto<K, C> {
@@ -221,11 +232,11 @@ fn read_into<K, P: Copier<K>, O: MergeOperation, C: Compare<K>>(
     let mut cmp = cmp;
     let kept = list.len();
     let filled = room.min(list.capacity() - kept);
-    fill(&mut list, filled, &a[0], by);
+    fill(&mut list, filled, &a[from.i], by);
     let at = read_singly(
         a,
         b,
-        next,
+        from,
         op,
         by,
         &mut cmp,

@@ -1,7 +1,7 @@
 use Rattle.std.proofs.Common.{◌≡◌, take, arith, refl}
 use Rattle.std.proofs.lemmas.List.{length-drop}
 use Rattle.range_merge.proofs.Filled.{IsFilled-read}
-use Rattle.range_merge.proofs.Relative.{Progress-from}
+use Rattle.range_merge.proofs.Works.{Progress-put}
 use Rattle.range_merge.proofs.merge_state.buffer.BufferRoomUnitByCopy.read.Goals as goal
 
 pub returns-clause-read : goal.returns-clause-read
@@ -10,9 +10,11 @@ returns-clause-read g c =
     let at = c.read_behind-read.result.answer in
     let out = c.read_behind-read.new.out in
     record {
+      lefts = read.read.lefts;
+      rights = read.read.rights;
       progress = λ first.
-          Progress-from (λ x y. y ≡ x) g.C.Compare.order (g.O.MergeOperation.connective c.args.op.now.op.now)
-          c.args.op.now.ac c.args.op.now.bc c.args.a.now c.args.b.now at.i at.j _ _ (take at.k out)
+          Progress-put (λ x y. y ≡ x) g.C.Compare.order (g.O.MergeOperation.connective c.args.op.now)
+          _ _ (take at.k out)
           (λ before ts copied so_far. (
             so_far.0,
             IsFilled-read c.args.self.now.given c.min-at.result at.k c.args.self.now.items.now out (λ room. omega (arith, c.min-at.ensures, room)) (omega (arith, c.min-at.ensures))
@@ -21,6 +23,18 @@ returns-clause-read g c =
           read.read.progress;
       stands = read.read.stands;
       stays = λ _. refl;
-      still_fits = omega (arith, length-drop at.i c.args.a.now, length-drop at.j c.args.b.now, read.at_most, read.read.stands.0, read.read.stands.1, c.requires.fits);
+      still_fits = omega (
+        arith,
+        length-drop at.i c.args.a.now,
+        length-drop at.j c.args.b.now,
+        length-drop c.args.from.i c.args.a.now,
+        length-drop c.args.from.j c.args.b.now,
+        read.read.lefts,
+        read.read.rights,
+        read.at_most,
+        read.read.stands.0,
+        read.read.stands.1,
+        c.requires.fits,
+      );
       still_room = λ _. tt;
     }

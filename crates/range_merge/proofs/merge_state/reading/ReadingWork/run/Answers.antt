@@ -11,10 +11,11 @@ returns g c =
     let at = c.read.result.answer in
     let m = g.C.Compare.count c.args.cmp in
     let n = g.C.Compare.count c.read.result.cmp in
-    let all = weight g.C.Compare.order a b in
+    let from = c.args.self.now.from in
+    let all = weight g.C.Compare.order (drop from.i a) (drop from.j b) in
     let rest = weight g.C.Compare.order (drop at.i a) (drop at.j b) in (
       n - m,
       made-more m n c.read.ensures.made,
-      made-few m n all rest (length a + length b) c.read.ensures.comparisons (weight-le g.C.Compare.order a b) c.requires.ready.0.short,
+      made-few m n all rest (length (drop from.i a) + length (drop from.j b)) c.read.ensures.comparisons (weight-le g.C.Compare.order (drop from.i a) (drop from.j b)) c.requires.ready.0.short,
       (refl, c.read.ensures.read, made-costs m n all rest c.read.ensures.made c.read.ensures.comparisons),
     )

@@ -1,6 +1,6 @@
 use Rattle.std.proofs.Common.{length, drop, refl}
 use Rattle.range_merge.proofs.CopiesLemmas.{AreKeptThenCopies-behind}
-use Rattle.range_merge.proofs.Relative.{Progress-from}
+use Rattle.range_merge.proofs.Works.{Progress-put}
 use Rattle.range_merge.proofs.merge_state.reading.VecRoomCopying.read.Goals as goal
 
 pub returns-clause-read : goal.returns-clause-read
@@ -9,9 +9,10 @@ returns-clause-read g c =
     let old = c.args.self.now.items in
     let new = c.read_into-read.result.list.items in
     record {
+      lefts = read.read.lefts;
+      rights = read.read.rights;
       progress = λ first.
-          Progress-from g.P.Copier.alike g.C.Compare.order (g.O.MergeOperation.connective c.args.op.now.op.now)
-          c.args.op.now.ac c.args.op.now.bc c.args.a.now c.args.b.now c.read_into-read.result.at.i c.read_into-read.result.at.j _ _ (drop (length old) new)
+          Progress-put g.P.Copier.alike g.C.Compare.order (g.O.MergeOperation.connective c.args.op.now) _ _ (drop (length old) new)
           (AreKeptThenCopies-behind g.P.Copier.alike first old new read.kept) read.read.progress;
       stands = c.read_into-read.ensures.read.stands;
       stays = λ _. refl;
