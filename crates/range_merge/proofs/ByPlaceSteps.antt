@@ -85,7 +85,7 @@ module _ {K : Type 0} (order : K → K → Ordering) (f : Table) (a b : List K) 
 
   pub Counts-made : {count0 m i1 j1 i j k count : ℕ} {next : Ordering}
       → m ≤ 4 → length a + length b < 2 ^ 64 → count0 < 2 ^ 127 → Counts count0 m i1 j1 i j k count next → count + 8 < 2 ^ 128 - 1
-  Counts-made few fits made w = Reads-made (λ x y. x ≡ y) order f a b 0 0 few (omega (arith, fits)) made w.reads
+  Counts-made few fits made w = omega (arith, Reads-made (λ x y. x ≡ y) order f a b 0 0 few (omega (arith, fits)) made w.reads)
 
   -- a window begins at a look
   pub Counts-window : {count0 i j k count : ℕ} {next : Ordering} → Counts count0 0 i j i j k count next

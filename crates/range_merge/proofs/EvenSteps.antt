@@ -2,7 +2,7 @@
 --     takes-then, odd-then               whether a step takes what it reads
 --     IsStep-of, AreSixteen-window       a step, and up to sixteen in windows of two lists
 --     Came, Came-sixteen                 how far a read came after some looks
-use Rattle.std.proofs.Common.{◌≡◌, refl, ap, sym, ◌∙◌, ℕ, zero, suc, ◌+◌, ◌-◌, ◌*◌, ◌^◌, ◌<◌, ◌≤◌, ◌%◌, ◌==◌, Bool, true, false, not, ◌&&◌, cond, List, [], ◌∷◌, ◌++◌, length, take, drop, slice_get, Some, ◌⊎◌, inl, inr, arith}
+use Rattle.std.proofs.Common.{◌≡◌, refl, ap, sym, ◌∙◌, ℕ, zero, suc, ◌+◌, ◌-◌, ◌*◌, ◌^◌, ◌<◌, ◌≤◌, ◌%◌, ◌==◌, Bool, true, false, not, ◌&&◌, ◌||◌, cond, List, [], ◌∷◌, ◌++◌, length, take, drop, slice_get, Some, ◌⊎◌, inl, inr, arith}
 use Rattle.std.proofs.Math.Bool.{beq}
 use Rattle.std.proofs.lemmas.Bool.{false≢true}
 use borrow.Rule.Slice.PartMut.{put_mid}
@@ -57,6 +57,12 @@ takes-then f Greater ac bc then_ac left right then_is left_is right_is = rw (rig
     alone : (x : Bool) → not (beq false x) ≡ x
     alone true = refl
     alone false = refl
+
+-- the answer for a truth, of those for both
+pub chosen : (b on off : Bool) (f : Bool → Bool) → on ≡ f true → off ≡ f false → ((b && on) || (not b && off)) ≡ f b
+chosen true true off f on_is off_is = on_is
+chosen true false off f on_is off_is = on_is
+chosen false on off f on_is off_is = off_is
 
 -- how the left side stands after a step
 pub odd-then : (how : Ordering) (i i' : ℕ) → i' ≡ i + lefts_of how → is_odd i' ≡ differ (is_odd i) (is_le how)
@@ -116,8 +122,10 @@ module _ {K : Type 0} where
     where
       none : (u : ℕ) → 0 + u ≡ u
       none u = omega arith
+
       more : (n u : ℕ) → suc n + u ≡ suc (n + u)
       more n u = omega arith
+
       rest : (n u : ℕ) (xs : List K) (x : K) → slice_get xs (n + u) ≡ Some x → slice_get (drop n xs) u ≡ Some x
       rest zero u xs x is = rw (none u) at is
       rest (suc n) u [] x is = absurd cc
@@ -240,8 +248,19 @@ module _ {K : Type 0} (alike : K → K → Type 0) (order : K → K → Ordering
       let three = s.rest.rest.first in
       let four = s.rest.rest.rest in
       omega (
-        arith, one.lefts, one.rights, two.lefts, two.rights, three.lefts, three.rights, four.lefts, four.rights,
-        reads-one x.next, reads-one s.mid.next, reads-one s.rest.mid.next, reads-one s.rest.rest.mid.next,
+        arith,
+        one.lefts,
+        one.rights,
+        two.lefts,
+        two.rights,
+        three.lefts,
+        three.rights,
+        four.lefts,
+        four.rights,
+        reads-one x.next,
+        reads-one s.mid.next,
+        reads-one s.rest.mid.next,
+        reads-one s.rest.rest.mid.next,
       )
 
   IsLooked-reads : (x y : Place K) → IsLooked alike order f a b x y → x.i + x.j ≤ y.i + y.j

@@ -13,7 +13,7 @@ ghost use Rattle.range_merge.specs.Steps.{FirstsStand, one_of_run, takes};
 
 use crate::compare::Compare;
 use crate::operations::MergeOperation;
-use crate::singly::{ReadSoFar, Relative, beyond, has_nine, is_long, is_on};
+use crate::singly::{ReadSoFar, Relative, is_long, is_on};
 use std::cmp::Ordering;
 
 // Reads the first item, or one of each list where they are equal, and compares the next two.
@@ -81,6 +81,34 @@ fn four_steps<K, O: MergeOperation, C: Compare<K>>(
     let two = step(a, b, one, op, cmp);
     let three = step(a, b, two, op, cmp);
     step(a, b, three, op, cmp)
+}
+
+// Whether each list has unread items enough for eight steps, of which each compares the next ones.
+#[inline(always)]
+fn has_nine(lefts: usize, rights: usize) -> bool
+    ensures lefts { IsTrue result → 9 ≤ lefts }
+    ensures rights { IsTrue result → 9 ≤ rights }
+{
+    lefts >= 9 && rights >= 9
+}
+
+// A place of the whole lists, from one in windows that begin at `start`.
+#[inline(always)]
+fn beyond(start: ReadSoFar, at: ReadSoFar) -> ReadSoFar
+    requires lefts { start.i + at.i < 2 ^ 64 }
+    requires rights { start.j + at.j < 2 ^ 64 }
+    requires taken { start.k + at.k < 2 ^ 64 }
+    ensures lefts { result.i ≡ start.i + at.i }
+    ensures rights { result.j ≡ start.j + at.j }
+    ensures taken { result.k ≡ start.k + at.k }
+    ensures next { result.next ≡ at.next }
+{
+    ReadSoFar {
+        i: start.i + at.i,
+        j: start.j + at.j,
+        k: start.k + at.k,
+        next: at.next,
+    }
 }
 
 /// Reads items of both slices, one or both at a step, from their starts on, until a run is long or

@@ -151,7 +151,10 @@ fn is_taken<O: MergeOperation>(op: &O, next: Ordering, bc: bool, then_ac: bool) 
     ensures { (ac : Bool) → then_ac ≡ differ ac (is_le next) →
         result ≡ takes (O.connective op.now) ac bc (one_of_run next) }
 {
-    (next.is_le() & op.takes_a(bc)) != (next.is_ge() & op.takes_b(then_ac))
+    // Asked for each truth, so that a loop asks only once.
+    let left = (bc & op.takes_a(true)) | (!bc & op.takes_a(false));
+    let right = (then_ac & op.takes_b(true)) | (!then_ac & op.takes_b(false));
+    (next.is_le() & left) != (next.is_ge() & right)
 }
 
 // The next item of each list, beside the list, so that a step need not wait until it is read.
@@ -404,15 +407,6 @@ fn sixteen_steps<K: Drop, P: Copier<K>, O: MergeOperation, C: Compare<K>>(
     }
 }
 
-/// Whether each list has unread items enough for eight steps, of which each compares the next ones.
-#[inline(always)]
-pub(crate) fn has_nine(lefts: usize, rights: usize) -> bool
-    ensures lefts { IsTrue result → 9 ≤ lefts }
-    ensures rights { IsTrue result → 9 ≤ rights }
-{
-    lefts >= 9 && rights >= 9
-}
-
 // Whether there are unread items and room enough for sixteen steps from an even place on, or the one
 // after it, of which each compares the next items.
 #[inline(always)]
@@ -422,25 +416,6 @@ fn has_sixteen(lefts: usize, rights: usize, room: usize) -> bool
     ensures room { IsTrue result → 16 ≤ room }
 {
     lefts >= 18 && rights >= 18 && room >= 16
-}
-
-/// A place of the whole lists, from one in windows that begin at `start`.
-#[inline(always)]
-pub(crate) fn beyond(start: ReadSoFar, at: ReadSoFar) -> ReadSoFar
-    requires lefts { start.i + at.i < 2 ^ 64 }
-    requires rights { start.j + at.j < 2 ^ 64 }
-    requires taken { start.k + at.k < 2 ^ 64 }
-    ensures lefts { result.i ≡ start.i + at.i }
-    ensures rights { result.j ≡ start.j + at.j }
-    ensures taken { result.k ≡ start.k + at.k }
-    ensures next { result.next ≡ at.next }
-{
-    ReadSoFar {
-        i: start.i + at.i,
-        j: start.j + at.j,
-        k: start.k + at.k,
-        next: at.next,
-    }
 }
 
 /// Reads items of both slices, one or both at a step, until a run is long, a slice is nearly used up
@@ -492,7 +467,9 @@ pub(crate) fn read_singly<K: Drop, P: Copier<K>, O: MergeOperation, C: Compare<K
     while has_sixteen(lefts.len(), rights.len(), out.len() - at.k) {
         let read = sixteen_steps(lefts, rights, at, &mut firsts, op, by, cmp, out, keeps);
         if read.is_long {
-            return read.at.behind(a.len() - lefts.len(), b.len() - rights.len());
+            return read
+                .at
+                .behind(a.len() - lefts.len(), b.len() - rights.len());
         }
         lefts = &lefts[read.at.i - read.at.i % 2..];
         rights = &rights[read.at.j - read.at.j % 2..];

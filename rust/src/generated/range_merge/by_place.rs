@@ -8,9 +8,7 @@
 
 use crate::generated::range_merge::compare::Compare;
 use crate::generated::range_merge::operations::MergeOperation;
-use crate::generated::range_merge::singly::{
-    beyond, has_nine, is_long, is_on, ReadSoFar, Relative,
-};
+use crate::generated::range_merge::singly::{is_long, is_on, ReadSoFar, Relative};
 use core::cmp::Ordering;
 
 // Reads the first item, or one of each list where they are equal, and compares the next two.
@@ -43,6 +41,23 @@ fn four_steps<K, O: MergeOperation, C: Compare<K>>(
     let two = step(a, b, one, op, cmp);
     let three = step(a, b, two, op, cmp);
     step(a, b, three, op, cmp)
+}
+
+// Whether each list has unread items enough for eight steps, of which each compares the next ones.
+#[inline(always)]
+fn has_nine(lefts: usize, rights: usize) -> bool {
+    lefts >= 9 && rights >= 9
+}
+
+// A place of the whole lists, from one in windows that begin at `start`.
+#[inline(always)]
+fn beyond(start: ReadSoFar, at: ReadSoFar) -> ReadSoFar {
+    ReadSoFar {
+        i: start.i + at.i,
+        j: start.j + at.j,
+        k: start.k + at.k,
+        next: at.next,
+    }
 }
 
 /// Reads items of both slices, one or both at a step, from their starts on, until a run is long or

@@ -114,7 +114,10 @@ struct Looked {
 // takes it as the right side stands before the step, and as the left one does after it.
 #[inline(always)]
 fn is_taken<O: MergeOperation>(op: &O, next: Ordering, bc: bool, then_ac: bool) -> bool {
-    (next.is_le() & op.takes_a(bc)) != (next.is_ge() & op.takes_b(then_ac))
+    // Asked for each truth, so that a loop asks only once.
+    let left = (bc & op.takes_a(true)) | (!bc & op.takes_a(false));
+    let right = (then_ac & op.takes_b(true)) | (!then_ac & op.takes_b(false));
+    (next.is_le() & left) != (next.is_ge() & right)
 }
 
 // The next item of each list, beside the list, so that a step need not wait until it is read.
@@ -256,28 +259,11 @@ fn sixteen_steps<K, P: Copier<K>, O: MergeOperation, C: Compare<K>>(
     }
 }
 
-/// Whether each list has unread items enough for eight steps, of which each compares the next ones.
-#[inline(always)]
-pub(crate) fn has_nine(lefts: usize, rights: usize) -> bool {
-    lefts >= 9 && rights >= 9
-}
-
 // Whether there are unread items and room enough for sixteen steps from an even place on, or the one
 // after it, of which each compares the next items.
 #[inline(always)]
 fn has_sixteen(lefts: usize, rights: usize, room: usize) -> bool {
     lefts >= 18 && rights >= 18 && room >= 16
-}
-
-/// A place of the whole lists, from one in windows that begin at `start`.
-#[inline(always)]
-pub(crate) fn beyond(start: ReadSoFar, at: ReadSoFar) -> ReadSoFar {
-    ReadSoFar {
-        i: start.i + at.i,
-        j: start.j + at.j,
-        k: start.k + at.k,
-        next: at.next,
-    }
 }
 
 /// Reads items of both slices, one or both at a step, until a run is long, a slice is nearly used up

@@ -44,8 +44,11 @@ overflow_sub-out g c =
 
 pub sixteen_steps-read-requires-clause-made : goal.sixteen_steps-read-requires-clause-made
 sixteen_steps-read-requires-clause-made g c =
-    omega (arith, Reads-made g.P.Copier.alike g.C.Compare.order (g.O.MergeOperation.connective c.args.op.now) c.args.a.now c.args.b.now c.args.from.i c.args.from.j
-    (omega arith) c.requires.fits c.requires.made c.loop-firsts.invariant.reads)
+    omega (
+      arith,
+      Reads-made g.P.Copier.alike g.C.Compare.order (g.O.MergeOperation.connective c.args.op.now) c.args.a.now c.args.b.now c.args.from.i c.args.from.j
+          (omega arith) c.requires.fits c.requires.made c.loop-firsts.invariant.reads,
+    )
 
 pub overflow_sub-a : goal.overflow_sub-a
 overflow_sub-a g c =
