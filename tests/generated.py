@@ -31,7 +31,7 @@ INSTEAD = rows("""
     *: #[derive(Drop)] → | , Drop)] → )] | where T: Drop, { → { | : MadeWith<Global> + Drop →
     *: + MadeWith<Global> → | + Drop → | : Drop →
     // Calls for their clauses alone: laws, functions that do nothing, and reads.
-    *: LAW::<NAME, Comparisons>(); → | PATH.known(); → | self.known_in_range(); → | R::keeps_own(); →
+    *: LAW::<NAME, Comparisons>(); → | PATH.known(); → | self.known_in_range(); → | R::left_items_stay(); →
     *: let _inline = PATH.capacity(); → | let _len = PATH.len(); → | let _lengths = (state.a_len(), state.b_len()); →
     *: let _number = *self; → | let _character = *self; →
     // What Rust 1.63 writes otherwise: `let .. else`, an attribute, and a formatter, which hides where it writes.
@@ -66,7 +66,7 @@ INSTEAD = rows("""
 # Items that the generated file lacks: those in whose names these words stand. A module is left out with its file.
 LEFT_OUT = rows("""
     // Ghosts, and what does nothing or drops field by field, as Rust does. IDLE says of each row with `*` that it is so.
-    *: Model for | Drop for | fn known | fn known_in_range | fn keeps_own
+    *: Model for | Drop for | fn known | fn known_in_range | fn left_items_stay
     // What clauses alone cite.
     range_c/mod, range_collections/mod, range_map/mod, range_merge/mod, range_tracker/mod: mod laws
     range_collections/comparisons: for Comparisons / fn made ; range_merge/compare: fn made
@@ -78,7 +78,7 @@ LEFT_OUT = rows("""
     range_entry/lists: fn is_empty_list | EntryClone for Vec<T> ; range_entry/texts: EntryClone for String
     range_entry/mod: mod non_zero | mod non_zero_std ; range_map/value: MapValue for T
     // Whether a compiler selects without a branch, which depends on rustc's version.
-    range_merge/searching/selecting: const SELECTS
+    range_merge/fast/branchless: const SELECTS
     // What nothing in Rust calls.
     range_chunks/space/fitting: impl<T: Unsigned> ChunkedSpace<T>
     range_collections/range_set/by_view: fn contains_counted | fn contains_range_counted | fn range_at_counted | fn merge_test
@@ -87,15 +87,13 @@ LEFT_OUT = rows("""
     range_collections/range_set/operations, range_collections/range_set/values: + EntryClone, const N: usize> RangeSet<T, N>
     range_collections/range_set: mod taking ; range_collections/view: fn single ; range_list/list/reading: fn last
     range_map/map: mod building ; range_merge/merge_state/small_vec: fn new ; range_tracker/tracker: fn gaps
-    // Merges in place work on lists of rust/src/support, where a gap is open, and not on those that fill it with blanks.
-    range_merge/mod: mod turning ; range_merge/merge_state/grows_at_end: fn append_within ; range_collections/lists: fn append_both
-    range_merge/in_place_builder: InPlaceBuilder<K, N> | fn puts_left | fn put | fn finish | fn put_item
-    range_merge/merge_state/in_place: type InPlaceMergeState | InPlaceMergeState<K, N>
-    range_merge/merge_state/in_place_ref: type InPlaceMergeStateRef | InPlaceMergeStateRef<'a, K, P, N>
-    range_merge/in_place_list: for SmallVec<K, N> | for &mut L | struct Slots | for Slots<'b, K> | fn set | fn put_between | fn replace_item
-    range_merge/in_place_list: fn exchange | fn exchange_few | fn exchange_many | fn exchange_ends | fn swap_down | fn swap_few_down
-    range_merge/in_place_list: fn swap_many_down | fn swap_up | fn swap_few_up | fn swap_many_up | fn swap_blocks_up | fn last_to_front
-    range_merge/in_place_list: fn push_blanks | fn open_gap_in | const MOVED_AT_ONCE | const ROTATED | const BLOCKS
+    // Merges in place work on lists of rust/src/support, where a hole is open, and not on those that fill it with blanks.
+    range_merge/fast: mod moves ; range_merge/merge_state/small_vec: fn append_within ; range_collections/lists: fn append_both
+    range_merge/in_place/builder: InPlaceBuilder<K, N> | fn puts_left | fn put | fn finish | fn put_item
+    range_merge/in_place/owned: type InPlaceMergeState | InPlaceMergeState<K, N>
+    range_merge/in_place/borrowed: type InPlaceMergeStateRef | InPlaceMergeStateRef<'a, K, P, N>
+    range_merge/in_place/list: for SmallVec<K, N> | for &mut L | struct Slots | for Slots<'b, K> | fn set | fn put_between | fn replace_item
+    range_merge/in_place/list: fn push_blanks | fn open_hole_in
 """)
 IDLE = re.compile(r"(?:\{(?: let Self \{ [\w :,]+ \} = self ;)? \}|;)$")
 # Items that the source lacks: clones, of which COPIED says that they go field by field.

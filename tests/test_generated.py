@@ -17,18 +17,18 @@ import generated  # noqa: E402
 # Changes of a generated file, and the item with which they are named: the file, the text, which is there once, and the item.
 PLANTED = [
     # An operator, a constant, a literal, a text.
-    ("range_merge/galloping", "while low <= len / 2", "while low < len / 2", "fn doubled"),
-    ("range_merge/galloping", "2 * low - 1", "2 * low + 1", "fn doubled"),
-    ("range_merge/pacing", "const READ_FROM: usize = 16;", "const READ_FROM: usize = 17;", "const READ_FROM"),
+    ("range_merge/runs", "while low <= len / 2", "while low < len / 2", "fn doubled"),
+    ("range_merge/runs", "2 * low - 1", "2 * low + 1", "fn doubled"),
+    ("range_merge/fast/rounds", "const READ_FROM: usize = 16;", "const READ_FROM: usize = 17;", "const READ_FROM"),
     ("range_list/place", "Place = Place { chunk: 0, index: 0 }", "Place = Place { chunk: 0, index: 1 }", "const FRONT"),
     ("range_tracker/limit", "boundaries > limit", "boundaries > limit + 1", "fn within_limit"),
     ("range_collections/parse", '"a comma or the end"', '"a comma or the  end"', "Display for Expected / fn fmt"),
     # A statement that is dropped, added, or moved.
     ("range_collections/range_set/insertion", "        self.insert(range)?;\n", "", "fn insert_changed"),
     ("range_collections/range_set/insertion", "        self.remove(range)?;\n", "        self.remove(range)?;\n        self.list.clear();\n", "fn remove_changed"),
-    ("range_merge/merging", "        firsts = next;\n        left = one_less(left);", "        left = one_less(left);\n        firsts = next;", "fn take_rounds"),
+    ("range_merge/merging", "        firsts = next;\n        remaining = one_less(remaining);", "        remaining = one_less(remaining);\n        firsts = next;", "fn take_rounds"),
     # A check that is removed, another way of an error, an arm.
-    ("range_merge/galloping", "    if side.len() < 2 {\n        return Below { len: 1, next: None };\n    }\n", "", "fn gallop"),
+    ("range_merge/runs", "    if side.len() < 2 {\n        return Below { len: 1, next: None };\n    }\n", "", "fn gallop"),
     ("range_tracker/tracker", "self.admit(&range, &DiffOp)?;", "let _ = self.admit(&range, &DiffOp);", "impl Tracker / fn forget"),
     ("range_tracker/limit", "Err(TrackError::TooMany { boundaries })", "Ok(())", "fn within_limit"),
     ("range_merge/merging", "        (0, 0) => Ok(true),", "        (0, 0) => Ok(false),", "fn take_rest"),
@@ -42,16 +42,16 @@ PLANTED = [
     ("range_tracker/limit", "boundaries: usize, limit: usize", "limit: usize, boundaries: usize", "fn within_limit"),
     ("range_merge/merging", "fn advance_left<S: MergeStateMut>", "fn advance_left<S: MergeState>", "fn advance_left"),
     ("range_merge/operations", "#[derive(Clone, Copy, Debug, PartialEq, Eq)]\npub struct Connective", "pub struct Connective", "struct Connective"),
-    ("range_merge/galloping", "\nfn doubled", "\npub fn doubled", "fn doubled"),
+    ("range_merge/runs", "\nfn doubled", "\npub fn doubled", "fn doubled"),
     # An item that is added, dropped, doubled, or moved to another type; a field, and a variant.
-    ("range_merge/pacing", "const READ_FROM: usize = 16;", "const READ_FROM: usize = 16;\nfn read_from() -> usize {\n    READ_FROM\n}\n", "fn read_from"),
+    ("range_merge/fast/rounds", "const READ_FROM: usize = 16;", "const READ_FROM: usize = 16;\nfn read_from() -> usize {\n    READ_FROM\n}\n", "fn read_from"),
     ("range_merge/runs", "impl<S: MergeState> Indexed<S::Item> for LeftOf", "impl<S: MergeState> Drop for RightOf<'_, S> {}\nimpl<S: MergeState> Indexed<S::Item> for LeftOf", "Drop for RightOf < '_ , S >"),
     ("range_merge/merging", "    /// The state stopped.\n    Stopped,", "    Stopped,\n    Lost,", "enum Went"),
-    ("range_merge/galloping", "    low: usize,\n    high: usize,\n    next: Option<Ordering>,\n}", "    low: usize,\n    next: Option<Ordering>,\n}", "struct Window"),
-    ("range_merge/mod", "pub(crate) mod galloping;\n", "", "mod galloping"),
-    ("range_merge/mod", "pub(crate) mod galloping;\n", '#[path = "other.rs"]\npub(crate) mod galloping;\n', "mod galloping"),
+    ("range_merge/runs", "    low: usize,\n    high: usize,\n    next: Option<Ordering>,\n}", "    low: usize,\n    next: Option<Ordering>,\n}", "struct Bracket"),
+    ("range_merge/mod", "pub(crate) mod runs;\n", "", "mod runs"),
+    ("range_merge/mod", "pub(crate) mod runs;\n", '#[path = "other.rs"]\npub(crate) mod runs;\n', "mod runs"),
     # A name from elsewhere.
-    ("range_merge/galloping", "::range_merge::compare::Compare;", "::range_merge::pacing::Compare;", "use crate :: generated :: range_merge :: pacing :: Compare"),
+    ("range_merge/runs", "::range_merge::compare::Compare;", "::range_merge::merging::Compare;", "use crate :: generated :: range_merge :: merging :: Compare"),
     ("range_merge/merging", "use crate::support::AllocError;", "use crate::support::{merge, AllocError};", "use crate :: support :: merge"),
     ("range_merge/merging", "use core::cmp::Ordering;", "use core::cmp::{Ordering, Reverse as LeftOf};", "use core :: cmp :: Reverse as LeftOf"),
     ("range_merge/mod", "pub use crate::support::move_last_two;\n", "pub use crate::support::move_two;\n", "use crate :: support :: move_two"),
@@ -63,13 +63,13 @@ PLANTED = [
 ]
 # Changes of a source that no generated file has: the file, and the text.
 OF_PROOFS = [
-    ("range_merge/galloping", "(2 * digits result.len - 1) }", "(4 * digits result.len) }"),
-    ("range_merge/galloping", "    requires some { 0 < length (L.items side.now) }\n", ""),
-    ("range_merge/galloping", "    requires some { 0 < length", "    ensures more { {} ≡ [] }\n    requires some { 0 < length"),
+    ("range_merge/runs", "(2 * digits result.len - 1) }", "(4 * digits result.len) }"),
+    ("range_merge/runs", "    requires some { 0 < length (L.items side.now) }\n", ""),
+    ("range_merge/runs", "    requires some { 0 < length", "    ensures more { {} ≡ [] }\n    requires some { 0 < length"),
     ("range_merge/compare", "    ghost order: { K → K → TheOrdering };", "    ghost order: { K → TheOrdering } by { x };\n    ghost more = { λ x. x };"),
     ("range_merge/compare", "// The order. It", '/* fn "x */ // The order. It'),
     ("range_collections/view", "    pub ghost sorted:", "    ghost set: { List T },\n    pub(crate) ghost sorted:"),
-    ("range_merge/merging", "#[inline(always)]\npub(crate) fn merge_with", "#[tactic(auto, using(x))]\n#[inline(always)]\npub(crate) fn merge_with"),
+    ("range_merge/fast/short_runs", "#[inline(always)]\npub(crate) fn merge_reading", "#[tactic(auto, using(x))]\n#[inline(always)]\npub(crate) fn merge_reading"),
 ]
 
 
@@ -135,19 +135,19 @@ class Planted(unittest.TestCase):
                 self.assertEqual(named(file, source=planted(self, source_of(file), old, new)), {})
 
     def test_a_source_that_changes(self):
-        source = planted(self, source_of("range_merge/galloping"), "low <= len / 2", "low < len / 2")
-        self.assertEqual(len(named("range_merge/galloping", source=source)), 1)
+        source = planted(self, source_of("range_merge/runs"), "low <= len / 2", "low < len / 2")
+        self.assertEqual(len(named("range_merge/runs", source=source)), 1)
 
     def test_what_is_left_out_does_nothing(self):
-        source = planted(self, source_of("range_merge/merge_state/in_place"), "fn keeps_own() {}", "fn keeps_own() { wrong() }")
-        self.assertEqual(len(named("range_merge/merge_state/in_place", source=source)), 1)
+        source = planted(self, source_of("range_merge/in_place/owned"), "fn left_items_stay() {}", "fn left_items_stay() { wrong() }")
+        self.assertEqual(len(named("range_merge/in_place/owned", source=source)), 1)
         source = planted(self, source_of("range_chunks/set"), "let Self { list: _list } = self;", "wrong(self)")
         self.assertEqual(len(named("range_chunks/set", source=source)), 1)
 
     def test_a_row_of_no_use(self):
         with mock.patch.object(generated, "differences", lambda *_: ({}, 1)), mock.patch("builtins.print") as said:
             self.assertEqual(generated.main(), 1)
-        self.assertIn("a row of no use: range_merge/in_place_list: fn set", said.call_args.args)
+        self.assertIn("a row of no use: range_merge/in_place/list: fn set", said.call_args.args)
         rows = [*generated.INSTEAD, *generated.LEFT_OUT, *generated.ADDED, *generated.SUPPORT]
         self.assertEqual([it for it in said.call_args.args[:-1] if not it.startswith("a row of no use: ")], [])
         self.assertEqual(len(said.call_args.args), len(rows) + 1)

@@ -183,7 +183,7 @@ pub unsafe extern "C" fn plain_range_set_u32_is_all(a: *const u32, a_len: usize)
         self.assertIn("fn f(n: u8) -> u8 {\n    n\n}", found)
 
     def test_hints_go_and_calls_that_do_nothing(self):
-        text = "fn f(x: &[u8]) -> usize {\n    // `len` is called for its clause that the length is within usize, which the proof cites.\n    let _len = x.len();\n    x.known();\n    R::keeps_own();\n    1\n}"
+        text = "fn f(x: &[u8]) -> usize {\n    // `len` is called for its clause that the length is within usize, which the proof cites.\n    let _len = x.len();\n    x.known();\n    R::left_items_stay();\n    1\n}"
         self.assertEqual(rust(text), "fn f(x: &[u8]) -> usize {\n    1\n}")
 
     def test_a_block_before_a_call_that_does_nothing_stays(self):

@@ -75,8 +75,8 @@ SLICE = re.compile(r"&(mut )?\[(\w+)\]")
 PASSED = re.compile(r"(&mut )?(bool|usize|[iu]\d+|(Chunked|Mapped)[IU]\d+)")
 
 # Functions that do nothing when they run: a caller learns something by them.
-#   fn known(&self), fn known_in_range(&self), fn keeps_own()
-NOTHING = {"known", "known_in_range", "keeps_own"}
+#   fn known(&self), fn known_in_range(&self), fn left_items_stay()
+NOTHING = {"known", "known_in_range", "left_items_stay"}
 # The comment before a statement that is there for a proof alone.
 HINT = "which the proof cites."
 
@@ -85,7 +85,7 @@ HINT = "which the proof cites."
 # ranges out of sets of elements without an order too; std turns a list by two places without a buffer; a
 # box as its address is one of support.
 LEFT_OUT = {
-    "range_merge/turning",
+    "range_merge/fast/moves",
     "range_entry/non_zero",
     "range_entry/non_zero_std",
     "range_collections/json",
@@ -99,21 +99,21 @@ LEFT_OUT = {
 # Names whose files are left out, wherever they are imported.
 LEFT_OUT_NAMES = {"JsonError", "NonZeroU8", "NonZeroU16", "NonZeroU32", "NonZeroU64", "NonZeroU128", "NonZeroUsize"}
 
-# Files of which these items alone are written: lists of support have gaps without items, where Rattle's have blank
+# Files of which these items alone are written: lists of support have holes without items, where Rattle's have blank
 # items, so what moves items is theirs. See the module `opened`.
-ITEMS_KEPT = {"range_merge/in_place_list": {"trait GrowsByGap", "trait Exchanges"}}
+ITEMS_KEPT = {"range_merge/in_place/list": {"trait GrowsByHole", "trait Exchanges"}}
 
 # Items that are left out, by their file: a kind with a name, or an impl with its title up to the generics of the type.
 ITEMS_LEFT_OUT = {
-    "range_merge/in_place_builder": {"impl InPlaceBuilder<K, N>"},
+    "range_merge/in_place/builder": {"impl InPlaceBuilder<K, N>"},
     # There a list on the heap is appended to all at once.
-    "range_merge/merge_state/grows_at_end": {"fn append_within"},
+    "range_merge/merge_state/small_vec": {"fn append_within"},
     # There the room is looked at once for both.
     "range_collections/lists": {"fn append_both"},
-    "range_merge/merge_state/in_place": {"type InPlaceMergeState", "impl InPlaceMergeState"},
-    "range_merge/merge_state/in_place_ref": {"type InPlaceMergeStateRef", "impl InPlaceMergeStateRef"},
+    "range_merge/in_place/owned": {"type InPlaceMergeState", "impl InPlaceMergeState"},
+    "range_merge/in_place/borrowed": {"type InPlaceMergeStateRef", "impl InPlaceMergeStateRef"},
     # An earlier Rust selects by a branch.
-    "range_merge/searching/selecting": {"const SELECTS"},
+    "range_merge/fast/branchless": {"const SELECTS"},
     # Elements are std's own lists and texts, and no lists of support.
     "range_entry/lists": {"impl EntryClone for Vec"},
     "range_entry/texts": {"impl EntryClone for String"},
@@ -133,9 +133,9 @@ ITEMS_LEFT_OUT = {
 # What nothing in Rust calls, by its file: an item by its kind and name, a member by the name of its impl or trait.
 UNCALLED = {
     "range_merge/compare": {"Compare::made"},
-    "range_merge/in_place_builder": {"InPlaceBuilder::puts_left", "InPlaceBuilder::put", "InPlaceBuilder::finish", "fn put_item"},
+    "range_merge/in_place/builder": {"InPlaceBuilder::puts_left", "InPlaceBuilder::put", "InPlaceBuilder::finish", "fn put_item"},
     "range_merge/merge_state/small_vec": {"SmallVecMergeState::new"},
-    "range_merge/in_place_list": {"GrowsByGap::set"},
+    "range_merge/in_place/list": {"GrowsByHole::set"},
     "range_entry/lists": {"fn is_empty_list"},
     "range_collections/comparisons": {"Compare for Comparisons::made"},
     "range_collections/range_set/by_view": {
@@ -158,7 +158,7 @@ BY_SUPPORT = {"InPlaceMergeState", "InPlaceMergeStateRef", "Parts", "SELECTS", "
 IMPLS_LEFT_OUT = {"MadeWith", "Model", "RangeSetEntry"}
 # Private fields and functions that support and the layer use, by their file.
 SHOWN = {
-    "range_merge/merge_state/in_place_ref": {"over"},
+    "range_merge/in_place/borrowed": {"over"},
     "range_collections/range_set/values": {"range_of"},
     "range_list/list": {"chunks", "len"},
     "range_chunks/set": {"list"},

@@ -3,7 +3,7 @@
 --     GivesTheResult order is_copy f a b r                       the answer of a call that makes a new list
 --     BecomesTheResult order is_copy f a b new r                 the left list after a call in place with a borrowed right side
 --     BecomesTheOwnResult order f a b new r                      the same with an owned right side
---     IsCounted order a b before after Fact                      the fact, after at most twice the weight in comparisons
+--     CostsTwiceWeight order a b before after Fact               the fact, after at most twice the weight in comparisons
 --     IsTheNegation order is_value a items                       items is the one list that `!` makes of a
 use Rattle.std.specs.Prelude.{◌≡◌, ◌≢◌, ◌⊎◌, ℕ, ◌*◌, true, false, List, All, Any, Result, IfOk, OnOk, OnErr, IfErr}
 use Rattle.std.specs.Ordering.{is_le}
@@ -86,7 +86,7 @@ module _ {K : Type 0} (order : K → K → Ordering) where
     pub handed_back : IfErr r (λ refused. refused.1 ≡ b)
 
   -- a counted call on a and b, from one count to the other
-  pub record IsCounted (a b : List K) (before after : ℕ) (Fact : Type 0) : Type 0 where
+  pub record CostsTwiceWeight (a b : List K) (before after : ℕ) (Fact : Type 0) : Type 0 where
     -- what it says of its result
     pub fact : Fact
     -- whatever the result, it adds at most twice the sum of the binary digits of the runs' lengths

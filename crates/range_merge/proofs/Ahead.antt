@@ -6,7 +6,7 @@ use Rattle.std.specs.Cmp.{IsTotalOrder}
 use Rattle.std.proofs.lemmas.Option.{get_or_from_slice_get, slice_get_within}
 use Rattle.std.specs.declared.cmp.Ordering.{Ordering}
 use Rattle.range_merge.specs.Galloping.{StandsAt}
-use Rattle.range_merge.specs.Steps.{FirstsStand, ahead_of}
+use Rattle.range_merge.specs.OneRun.{FirstsStand, ahead_of}
 
 module _ {K : Type 0} (order : K → K → Ordering) (a b : List K) where
   -- after a run of the left's items that are below the right's first

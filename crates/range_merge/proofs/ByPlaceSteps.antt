@@ -17,10 +17,10 @@ use Rattle.range_merge.specs.ByPlace.{IsCounted}
 use Rattle.range_merge.specs.Changes.{taken_item, taken_items}
 use Rattle.range_merge.specs.Connective.{Table, differ}
 use Rattle.range_merge.specs.Copies.{IsAppended, items_if}
-use Rattle.range_merge.specs.Parts.{Progress}
+use Rattle.range_merge.specs.Stages.{Progress}
 use Rattle.range_merge.specs.Runs.{weight}
 use Rattle.range_merge.specs.Singly.{table_from, IsLong, IsCountStep, AreFourCounted}
-use Rattle.range_merge.specs.Steps.{FirstsStand, one_of_run, takes}
+use Rattle.range_merge.specs.OneRun.{FirstsStand, one_of_run, takes}
 use Rattle.range_merge.proofs.SinglySteps.{Reads, Reads-start, Reads-more, Reads-made, Reads-cost, Reads-looked, takes-at}
 use Rattle.range_merge.proofs.EvenSteps.{FirstsStand-take, drop-of_take}
 use Rattle.range_merge.proofs.Relative.{Progress-from}

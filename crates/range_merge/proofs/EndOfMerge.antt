@@ -7,27 +7,27 @@ use Rattle.range_merge.specs.Boundaries.{IsAscending}
 use Rattle.range_merge.specs.Changes.{Taken, changes, StopsAmong}
 use Rattle.range_merge.specs.Connective.{Table}
 use Rattle.range_merge.specs.Owners.{owners}
-use Rattle.range_merge.specs.Parts.{Ran, Part}
-use Rattle.range_merge.specs.Steps.{takes}
+use Rattle.range_merge.specs.Stages.{Ran, Stage}
+use Rattle.range_merge.specs.OneRun.{takes}
 use Rattle.range_merge.specs.declared.merging.Went.TheVariants.{Stopped, On}
 use Rattle.range_merge.specs.declared.runs.Run.TheVariants.{Left, Right}
 use Rattle.range_merge.proofs.FirstRun.{changes-walk}
 use Rattle.range_merge.proofs.MergeLoop.{Progress-end}
-use Rattle.range_merge.proofs.PartsOfMerge.{Part-then, Part-rest, Part-rest_stopped}
+use Rattle.range_merge.proofs.StagesOfMerge.{Stage-then, Stage-rest, Stage-rest_stopped}
 
 module _ {K S E : Type 0} {left right : S → List K} {left_on right_on : S → Bool} {output : S → List (Taken K) → Type 0} {fixed : S → ℕ} {is_infallible : S → Type 0} {can_stop : Bool}
     {order : K → K → Ordering} {f : Table} (o : IsTotalOrder order) {old mid new : S} {count0 count1 : ℕ}
-    (so_far : Part left right left_on right_on output fixed is_infallible can_stop order f old mid 0 count0 count1 {E = E} (Ok (On None)))
+    (so_far : Stage left right left_on right_on output fixed is_infallible can_stop order f old mid 0 count0 count1 {E = E} (Ok (On None)))
     (l_ascends : IsAscending order (left old)) (r_ascends : IsAscending order (right old)) (left_off : left_on old ≡ false) (right_off : right_on old ≡ false) where
   module _ (more : Bool)
       (lefts : 1 ≤ length (left mid) → Ran left right left_on right_on output fixed is_infallible can_stop (Left (length (left mid))) (takes f (left_on mid) (right_on mid) (Left (length (left mid)))) mid new {E = E} (Ok more))
       (rights : 1 ≤ length (right mid) → Ran left right left_on right_on output fixed is_infallible can_stop (Right (length (right mid))) (takes f (left_on mid) (right_on mid) (Right (length (right mid)))) mid new {E = E} (Ok more))
       (nothing : length (left mid) ≡ 0 → length (right mid) ≡ 0 → (◌≡◌ {A = Result Bool E} (Ok more) (Ok true)) × (new ≡ mid)) where
-    whole : more ≡ true → Part left right left_on right_on output fixed is_infallible can_stop order f old new 0 count0 count1 {E = E} (Ok (On None))
-    whole goes = Part-then o (Ok (On None)) so_far (Part-rest o more so_far.on.left_ascends so_far.on.right_ascends so_far.on.stands lefts rights nothing goes)
+    whole : more ≡ true → Stage left right left_on right_on output fixed is_infallible can_stop order f old new 0 count0 count1 {E = E} (Ok (On None))
+    whole goes = Stage-then o (Ok (On None)) so_far (Stage-rest o more so_far.on.left_ascends so_far.on.right_ascends so_far.on.stands lefts rights nothing goes)
 
-    front : more ≡ false → Part left right left_on right_on output fixed is_infallible can_stop order f old new 0 count0 count1 {E = E} (Ok Stopped)
-    front stops = Part-then o (Ok Stopped) so_far (Part-rest_stopped o more so_far.on.left_ascends so_far.on.right_ascends so_far.on.stands lefts rights nothing stops)
+    front : more ≡ false → Stage left right left_on right_on output fixed is_infallible can_stop order f old new 0 count0 count1 {E = E} (Ok Stopped)
+    front stops = Stage-then o (Ok Stopped) so_far (Stage-rest_stopped o more so_far.on.left_ascends so_far.on.right_ascends so_far.on.stands lefts rights nothing stops)
 
   -- where the state stopped, it took some of the changes
   pub end-stopped : (result : Result Bool E)

@@ -9,9 +9,9 @@ use Rattle.range_merge.specs.Boundaries.{IsAscending, is_odd}
 use Rattle.range_merge.specs.Changes.{Taken, taken_left}
 use Rattle.range_merge.specs.Connective.{Table, differ}
 use Rattle.range_merge.specs.Owners.{Owner, owners}
-use Rattle.range_merge.specs.Parts.{Progress}
+use Rattle.range_merge.specs.Stages.{Progress}
 use Rattle.range_merge.specs.Runs.{weight}
-use Rattle.range_merge.specs.Steps.{ArePairs, FirstsStand, PairsGoOn, StandsFirst, takes}
+use Rattle.range_merge.specs.OneRun.{ArePairs, FirstsStand, PairsGoOn, StandsFirst, takes}
 use Rattle.range_merge.specs.Walk.{walk}
 use Rattle.range_merge.specs.declared.runs.Run.TheVariants.{Both}
 use Rattle.range_merge.proofs.FirstRun.{stands_first}

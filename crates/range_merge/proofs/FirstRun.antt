@@ -10,7 +10,7 @@ use Rattle.range_merge.specs.Changes.{Taken, changes, from_left, from_right, tak
 use Rattle.range_merge.specs.Owners.{Owner, left_only, right_only, shared, owners}
 use Rattle.range_merge.specs.Runs.{runs, runs_of, run_len, weight}
 use Rattle.range_merge.specs.Walk.{walk}
-use Rattle.range_merge.specs.Steps.{RunFits, StandsAtStart, StandsFirst, FirstsStand, one_of_run}
+use Rattle.range_merge.specs.OneRun.{RunFits, StandsAtStart, StandsFirst, FirstsStand, one_of_run}
 use Rattle.range_merge.specs.declared.runs.Run.{Run}
 use Rattle.range_merge.specs.declared.runs.Run.TheVariants.{Left, Right, Both}
 use Rattle.range_merge.proofs.Digits as numbers

@@ -19,7 +19,7 @@ pub mod ChangesLemmas
 pub mod SameSet
 pub mod FirstRun
 pub mod MergeLoop
-pub mod PartsOfMerge
+pub mod StagesOfMerge
 pub mod EndOfMerge
 pub mod EqualPairs
 pub mod Testing

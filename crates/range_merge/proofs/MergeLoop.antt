@@ -10,8 +10,8 @@ use Rattle.range_merge.specs.Connective.{Table}
 use Rattle.range_merge.specs.Changes.{Taken, StopsAmong}
 use Rattle.range_merge.specs.Owners.{owners}
 use Rattle.range_merge.specs.Walk.{walk}
-use Rattle.range_merge.specs.Parts.{Progress}
-use Rattle.range_merge.specs.Steps.{StandsAtStart, RunFits, takes, taken_of_run, left_after, right_after, left_on_after, right_on_after}
+use Rattle.range_merge.specs.Stages.{Progress}
+use Rattle.range_merge.specs.OneRun.{StandsAtStart, RunFits, takes, taken_of_run, left_after, right_after, left_on_after, right_on_after}
 use Rattle.range_merge.specs.declared.runs.Run.{Run}
 use Rattle.range_merge.specs.declared.runs.Run.TheVariants.{Left, Right, Both}
 use Rattle.range_merge.proofs.Pairs.{AllPairs-drop}

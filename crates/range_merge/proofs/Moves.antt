@@ -1,4 +1,4 @@
--- Items that move within a list, down or up, a gap that is opened in it, and a list that is written
+-- Items that move within a list, down or up, a hole that is opened in it, and a list that is written
 -- back.
 use Rattle.std.proofs.Common.{◌≡◌, ℕ, ◌+◌, ◌-◌, ◌<◌, ◌≤◌, List, [], ◌∷◌, ◌++◌, length, take, drop, get_or, set, sym, ap, ◌∙◌, arith, append_assoc}
 use Rattle.std.specs.List.{swap, refill}

@@ -9,7 +9,7 @@ use Rattle.range_merge.specs.Changes.{Taken, taken_items}
 use Rattle.range_merge.specs.Connective.{Table, differ}
 use Rattle.range_merge.specs.Copies.{AreCopies}
 use Rattle.range_merge.specs.Owners.{Owner, left_only, right_only, shared, owners}
-use Rattle.range_merge.specs.Parts.{Progress}
+use Rattle.range_merge.specs.Stages.{Progress}
 use Rattle.range_merge.specs.Singly.{table_from}
 use Rattle.range_merge.specs.Walk.{walk}
 use Rattle.range_merge.proofs.CopiesLemmas.{AreCopies-items}

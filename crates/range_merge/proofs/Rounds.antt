@@ -5,12 +5,12 @@ use Rattle.std.specs.declared.cmp.Ordering.TheVariants.{Less, Equal, Greater}
 use Rattle.std.specs.Cmp.{IsTotalOrder}
 use Rattle.range_merge.specs.Changes.{Taken}
 use Rattle.range_merge.specs.Connective.{Table}
-use Rattle.range_merge.specs.Parts.{IsFirstRun, IsTurn, Leaves, GoesOn, Part}
+use Rattle.range_merge.specs.Stages.{IsFirstRun, IsTurn, Leaves, GoesOn, Stage}
 use Rattle.range_merge.specs.declared.merging.Went.TheVariants.{On}
 use Rattle.range_merge.proofs.MergeLoop.{Progress-then}
-use Rattle.range_merge.proofs.PartsOfMerge.{ahead_of-weight}
+use Rattle.range_merge.proofs.StagesOfMerge.{ahead_of-weight}
 use Rattle.range_merge.specs.Runs.{weight}
-use Rattle.range_merge.specs.Steps.{ahead_of, left_after, right_after}
+use Rattle.range_merge.specs.OneRun.{ahead_of, left_after, right_after}
 use Rattle.range_merge.specs.declared.runs.Run.{Run}
 
 -- nothing was done
@@ -76,10 +76,10 @@ counted-rounds (Some n) next how six whole is = (n, refl, six)
 -- comparisons were made beyond those of a part, of which a number were left
 module _ {K S E : Type 0} {left right : S → List K} {left_on right_on : S → Bool} {output : S → List (Taken K) → Type 0} {fixed : S → ℕ} {is_infallible : S → Type 0} {can_stop : Bool}
     {order : K → K → Ordering} {f : Table} (o : IsTotalOrder order) {old new : S} {known count0 count1 count2 : ℕ} {next : Option Ordering} where
-  pub Part-more : Part left right left_on right_on output fixed is_infallible can_stop order f old new known count0 count1 {E = E} (Ok (On next))
+  pub Stage-more : Stage left right left_on right_on output fixed is_infallible can_stop order f old new known count0 count1 {E = E} (Ok (On next))
       → count1 ≤ count2 → count2 + known + 2 * weight order (left new) (right new) ≤ count0 + 2 * weight order (left old) (right old) + ahead_of next
-      → Part left right left_on right_on output fixed is_infallible can_stop order f old new known count0 count2 {E = E} (Ok (On next))
-  Part-more a more cost = record {
+      → Stage left right left_on right_on output fixed is_infallible can_stop order f old new known count0 count2 {E = E} (Ok (On next))
+  Stage-more a more cost = record {
     on = a.on;
     stops = tt;
     counted = cost;
@@ -93,13 +93,13 @@ module _ {K S E : Type 0} {left right : S → List K} {left_on right_on : S → 
 -- what a read costs beyond the weight of what it read, where six comparisons were left before it
 module _ {K S E : Type 0} {left right : S → List K} {left_on right_on : S → Bool} {output : S → List (Taken K) → Type 0} {fixed : S → ℕ} {is_infallible : S → Type 0} {can_stop : Bool}
     {order : K → K → Ordering} {f : Table} (o : IsTotalOrder order) {old mid new : S} {known count0 count1 count2 : ℕ} where
-  pub Part-read : {how next : Ordering} → Part left right left_on right_on output fixed is_infallible can_stop order f old mid known count0 count1 {E = E} (Ok (On (Some how)))
+  pub Stage-read : {how next : Ordering} → Stage left right left_on right_on output fixed is_infallible can_stop order f old mid known count0 count1 {E = E} (Ok (On (Some how)))
       → count1 + 6 + known + 2 * weight order (left mid) (right mid) ≤ count0 + 2 * weight order (left old) (right old) + 1
       → GoesOn left right left_on right_on output fixed is_infallible can_stop order f mid new (Some next)
       → count1 ≤ count2 → count2 + 2 * weight order (left new) (right new) ≤ count1 + 2 * weight order (left mid) (right mid) + 6
       → fixed new ≡ fixed mid → (is_infallible mid → is_infallible new)
-      → Part left right left_on right_on output fixed is_infallible can_stop order f old new known count0 count2 {E = E} (Ok (On (Some next)))
-  Part-read {next = next} a six b at_least cost stays still =
+      → Stage left right left_on right_on output fixed is_infallible can_stop order f old new known count0 count2 {E = E} (Ok (On (Some next)))
+  Stage-read {next = next} a six b at_least cost stays still =
       let some = ahead_of-weight o (left new) (right new) b.left_ascends b.right_ascends (Some next) b.stands in
       record {
         on = record {
@@ -118,16 +118,16 @@ module _ {K S E : Type 0} {left right : S → List K} {left_on right_on : S → 
       }
 
   -- the same where a list may be used up, and then nothing is read
-  pub Part-read_on : (firsts after : Option Ordering) → Part left right left_on right_on output fixed is_infallible can_stop order f old mid known count0 count1 {E = E} (Ok (On firsts))
+  pub Stage-read_on : (firsts after : Option Ordering) → Stage left right left_on right_on output fixed is_infallible can_stop order f old mid known count0 count1 {E = E} (Ok (On firsts))
       → ((first : Ordering) → firsts ≡ Some first → count1 + 6 + known + 2 * weight order (left mid) (right mid) ≤ count0 + 2 * weight order (left old) (right old) + 1)
       → (firsts ≡ None → (after ≡ None) × (count2 ≡ count1) × (new ≡ mid)) → ((first : Ordering) → firsts ≡ Some first → (next : Ordering) × (after ≡ Some next))
       → GoesOn left right left_on right_on output fixed is_infallible can_stop order f mid new after
       → count1 ≤ count2 → count2 + 2 * weight order (left new) (right new) ≤ count1 + 2 * weight order (left mid) (right mid) + 6
       → fixed new ≡ fixed mid → (is_infallible mid → is_infallible new)
-      → Part left right left_on right_on output fixed is_infallible can_stop order f old new known count0 count2 {E = E} (Ok (On after))
-  Part-read_on None after a six ended some b at_least cost stays still =
+      → Stage left right left_on right_on output fixed is_infallible can_stop order f old new known count0 count2 {E = E} (Ok (On after))
+  Stage-read_on None after a six ended some b at_least cost stays still =
       let nothing = ended refl in
       rw (nothing.0, nothing.1, nothing.2) a
-  Part-read_on (Some first) after a six ended some b at_least cost stays still =
+  Stage-read_on (Some first) after a six ended some b at_least cost stays still =
       let is = some first refl in
-      rw is.1 (Part-read a (six first refl) (rw is.1 at b) at_least cost stays still)
+      rw is.1 (Stage-read a (six first refl) (rw is.1 at b) at_least cost stays still)

@@ -8,7 +8,7 @@ use Rattle.std.proofs.Common.{◌≡◌, refl, ap, ◌∙◌, ℕ, zero, suc, �
 use Rattle.std.specs.declared.cmp.Ordering.{Ordering}
 use Rattle.std.specs.declared.cmp.Ordering.TheVariants.{Less, Equal, Greater}
 use Rattle.range_merge.specs.Runs.{digits, run_len, weight_of}
-use Rattle.range_merge.specs.Steps.{one_of_run}
+use Rattle.range_merge.specs.OneRun.{one_of_run}
 use Rattle.range_merge.specs.declared.runs.Run.{Run}
 use Rattle.range_merge.specs.declared.runs.Run.TheVariants.{Left, Right, Both}
 use Rattle.range_merge.specs.Singly.{lefts_of, rights_of, IsLong}

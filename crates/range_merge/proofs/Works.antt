@@ -8,9 +8,9 @@ use Rattle.std.specs.declared.cmp.Ordering.{Ordering}
 use Rattle.range_merge.specs.Changes.{Taken, taken_items}
 use Rattle.range_merge.specs.Connective.{Table}
 use Rattle.range_merge.specs.Copies.{AreCopies}
-use Rattle.range_merge.specs.Parts.{Progress}
+use Rattle.range_merge.specs.Stages.{Progress}
 use Rattle.range_merge.specs.Reading.{IsReadInto}
-use Rattle.range_merge.specs.Steps.{FirstsStand}
+use Rattle.range_merge.specs.OneRun.{FirstsStand}
 use Rattle.range_merge.proofs.CopiesLemmas.{AreCopies-items}
 use Rattle.range_merge.proofs.MergeLoop.{Progress-none}
 

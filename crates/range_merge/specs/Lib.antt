@@ -5,9 +5,9 @@ pub mod Changes
 pub mod Runs
 pub mod Counting
 pub mod Walk
-pub mod Steps
+pub mod OneRun
 pub mod Searching
-pub mod Parts
+pub mod Stages
 pub mod Galloping
 pub mod States
 pub mod Copies

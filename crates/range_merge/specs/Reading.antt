@@ -7,9 +7,9 @@ use Rattle.std.specs.declared.cmp.Ordering.{Ordering}
 use Rattle.range_merge.specs.Boundaries.{IsAscending, is_odd}
 use Rattle.range_merge.specs.Changes.{Taken}
 use Rattle.range_merge.specs.Connective.{Table}
-use Rattle.range_merge.specs.Parts.{Progress}
+use Rattle.range_merge.specs.Stages.{Progress}
 use Rattle.range_merge.specs.Runs.{weight}
-use Rattle.range_merge.specs.Steps.{FirstsStand}
+use Rattle.range_merge.specs.OneRun.{FirstsStand}
 
 -- two slices of plain data can be read, whose first items stand so
 pub record CanRead {K : Type 0} (order : K → K → Ordering) (alike : K → K → Type 0)

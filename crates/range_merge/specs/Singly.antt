@@ -17,8 +17,8 @@ use Rattle.std.specs.declared.cmp.Ordering.TheVariants.{Less, Equal, Greater}
 use Rattle.range_merge.specs.Boundaries.{is_odd}
 use Rattle.range_merge.specs.Connective.{Table, differ}
 use Rattle.range_merge.specs.Copies.{AreCopies, IsAppended, items_if}
-use Rattle.range_merge.specs.Parts.{Progress}
-use Rattle.range_merge.specs.Steps.{FirstsStand, one_of_run, takes}
+use Rattle.range_merge.specs.Stages.{Progress}
+use Rattle.range_merge.specs.OneRun.{FirstsStand, one_of_run, takes}
 
 -- the answer differs from the one where both sides are off
 abbrev pub is_answer : Table → Bool → Bool → Bool

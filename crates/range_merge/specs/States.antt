@@ -28,7 +28,7 @@ pub record Building (K : Type 0) : Type 0 where
 
 -- a merge in place: the unread items of each side, whether the side is on, the items that were kept,
 -- and how many have room
-pub record Placing (K : Type 0) : Type 0 where
+pub record MergingInPlace (K : Type 0) : Type 0 where
   pub left : List K
   pub right : List K
   pub left_on : Bool

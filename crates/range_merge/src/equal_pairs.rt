@@ -4,9 +4,9 @@ ghost use Rattle.std.specs.Prelude.{◌≡◌, ◌+◌, ◌-◌, ◌*◌, ◌^�
 ghost use Rattle.std.specs.declared.cmp.Ordering.TheVariants.{Equal};
 ghost use Rattle.range_merge.specs.Boundaries.{IsAscending};
 ghost use Rattle.range_merge.specs.Changes.{Taken, taken_left};
-ghost use Rattle.range_merge.specs.Parts.{IfOn, IsTurn, Leaves, Part};
+ghost use Rattle.range_merge.specs.Stages.{IfOn, IsTurn, Leaves, Stage};
 ghost use Rattle.range_merge.specs.Runs.{weight};
-ghost use Rattle.range_merge.specs.Steps.{ArePairs, FirstsStand, PairsGoOn, ahead_of};
+ghost use Rattle.range_merge.specs.OneRun.{ArePairs, FirstsStand, PairsGoOn, ahead_of};
 
 use crate::compare::Compare;
 use crate::merge_state::{MergeState, MergeStateMut};
@@ -32,7 +32,7 @@ pub(crate) fn steps_both<S: MergeStateMut, O: MergeOperation, C: Compare<S::Item
     requires right_ascending { IsAscending C.order (S.right state.old) }
     requires fits { length (S.left state.old) + length (S.right state.old) < 2 ^ 65 }
     requires made { C.count cmp.old < 2 ^ 126 }
-    ensures part { Part S.left S.right S.left_on S.right_on S.output S.fixed S.is_infallible
+    ensures stage { Stage S.left S.right S.left_on S.right_on S.output S.fixed S.is_infallible
         S.can_stop C.order (O.connective op.now) state.old state.new
         (ahead_of firsts) (C.count cmp.old) (C.count cmp.new) result }
     ensures turn { IfOk result (IfOn (λ next. IsTurn Equal firsts next
@@ -42,14 +42,14 @@ pub(crate) fn steps_both<S: MergeStateMut, O: MergeOperation, C: Compare<S::Item
         (C.count cmp.old) (weight C.order (S.left state.old) (S.right state.old))
         (C.count cmp.new) (weight C.order (S.left state.new) (S.right state.new)))) }
 {
-    let mut left = 0;
+    let mut remaining = 0;
     while stand(firsts, Ordering::Equal) {
-        let pairs = next_pairs(state, left, cmp);
+        let pairs = next_pairs(state, remaining, cmp);
         let Went::On(next) = step_pairs(state, op, pairs.eight, cmp)? else {
             return Ok(Went::Stopped);
         };
         firsts = next;
-        left = pairs.left;
+        remaining = pairs.remaining;
     }
     Ok(Went::On(firsts))
 }
@@ -69,7 +69,7 @@ fn step_pairs<S: MergeStateMut, O: MergeOperation, C: Compare<S::Item>>(
     requires pairs { IsTrue eight → ArePairs C.order 8 (S.left state.old) (S.right state.old) }
     requires go_on { IsTrue eight → PairsGoOn (O.connective op.now) S.can_stop
         (S.left_on state.old) (S.right_on state.old) }
-    ensures part { Part S.left S.right S.left_on S.right_on S.output S.fixed S.is_infallible
+    ensures stage { Stage S.left S.right S.left_on S.right_on S.output S.fixed S.is_infallible
         S.can_stop C.order (O.connective op.now) state.old state.new
         1 (C.count cmp.old) (C.count cmp.new) result }
     ensures shorter { IfOk result (IfOn (λ _.
@@ -100,7 +100,7 @@ fn step_eight<S: MergeStateMut, O: MergeOperation, C: Compare<S::Item>>(
     requires left_ascending { IsAscending C.order (S.left state.old) }
     requires right_ascending { IsAscending C.order (S.right state.old) }
     requires made { C.count cmp.old < 2 ^ 127 }
-    ensures part { Part S.left S.right S.left_on S.right_on S.output S.fixed S.is_infallible
+    ensures stage { Stage S.left S.right S.left_on S.right_on S.output S.fixed S.is_infallible
         S.can_stop C.order (O.connective op.now) state.old state.new
         1 (C.count cmp.old) (C.count cmp.new) result }
     ensures shorter { IfOk result (IfOn (λ _.
@@ -130,7 +130,7 @@ fn step_both<S: MergeStateMut, O: MergeOperation, C: Compare<S::Item>>(
     requires left_ascending { IsAscending C.order (S.left state.old) }
     requires right_ascending { IsAscending C.order (S.right state.old) }
     requires made { C.count cmp.old < 2 ^ 127 }
-    ensures part { Part S.left S.right S.left_on S.right_on S.output S.fixed S.is_infallible
+    ensures stage { Stage S.left S.right S.left_on S.right_on S.output S.fixed S.is_infallible
         S.can_stop C.order (O.connective op.now) state.old state.new
         1 (C.count cmp.old) (C.count cmp.new) result }
     ensures go_on { IfOk result (IfOn (λ _. PairsGoOn (O.connective op.now) S.can_stop
@@ -156,38 +156,42 @@ struct NextPairs {
     // Whether it is eight pairs, or one.
     eight: bool,
     // How many comparisons of those that twice the weight allows are left after them, or more.
-    left: usize,
+    remaining: usize,
 }
 
 // Whether eight pairs come next. It looks if as many comparisons were left as that costs.
 #[inline(always)]
-fn next_pairs<S: MergeState, C: Compare<S::Item>>(state: &S, left: usize, cmp: &mut C) -> NextPairs
+fn next_pairs<S: MergeState, C: Compare<S::Item>>(
+    state: &S,
+    remaining: usize,
+    cmp: &mut C,
+) -> NextPairs
     requires first { FirstsStand C.order (S.left state.now) (S.right state.now) (Some Equal) }
     requires made { C.count cmp.old + 7 < 2 ^ 127 }
     ensures pairs { IsTrue result.eight →
         ArePairs C.order 8 (S.left state.now) (S.right state.now) }
-    ensures some { 1 ≤ result.left }
-    ensures went { IsTrue result.eight → 1 ≤ left }
+    ensures some { 1 ≤ result.remaining }
+    ensures went { IsTrue result.eight → 1 ≤ remaining }
     ensures made { C.count cmp.old ≤ C.count cmp.new }
-    ensures at_most { C.count cmp.new ≤ C.count cmp.old + (left - 1) }
-    ensures left { C.count cmp.new + result.left
-        ≤ C.count cmp.old + left + (if result.eight then 15 else 1) }
+    ensures at_most { C.count cmp.new ≤ C.count cmp.old + (remaining - 1) }
+    ensures remaining { C.count cmp.new + result.remaining
+        ≤ C.count cmp.old + remaining + (if result.eight then 15 else 1) }
 {
-    if left < EIGHT || state.a_len() < EIGHT || state.b_len() < EIGHT {
+    if remaining < EIGHT || state.a_len() < EIGHT || state.b_len() < EIGHT {
         return NextPairs {
             eight: false,
-            left: left.min(EIGHT - 1) + 1,
+            remaining: remaining.min(EIGHT - 1) + 1,
         };
     }
     if are_eight(state, cmp) {
         return NextPairs {
             eight: true,
-            left: EIGHT,
+            remaining: EIGHT,
         };
     }
     NextPairs {
         eight: false,
-        left: 2,
+        remaining: 2,
     }
 }
 

@@ -13,10 +13,9 @@ ghost use Rattle.range_merge.specs.Owners.{Owner, IsOwners, owners};
 ghost use Rattle.range_merge.specs.Runs.{digits, weight};
 
 use crate::compare::{Compare, Copier};
-use crate::merge_state::{
-    BoolOpMergeState, CountMergeState, InPlaceMergeState, InPlaceMergeStateRef, MergeStateMut,
-    SmallVecMergeState,
-};
+use crate::in_place::borrowed::InPlaceMergeStateRef;
+use crate::in_place::owned::InPlaceMergeState;
+use crate::merge_state::{BoolOpMergeState, CountMergeState, MergeStateMut, SmallVecMergeState};
 use std::alloc::Global;
 use std::default::MadeWith;
 

@@ -1,36 +1,39 @@
 //! Merges of strictly sorted lists, run by run, with every comparison counted.
+//!
+//! The first files say what a merge is for: what is given, and what may be asked of a list. The next
+//! say how two lists are merged. The rest stands on these, or makes them fast.
 #![tactic(auto)]
 
-mod by_place;
+// What it is for.
 mod compare;
-mod equal_pairs;
-mod galloping;
-mod in_place_builder;
-mod in_place_list;
-mod in_place_memory;
 mod indexed;
-pub mod laws;
+mod operations;
+mod searching;
+
+// How.
+mod equal_pairs;
 mod merge_state;
 mod merging;
-mod operations;
-mod pacing;
 mod runs;
-mod searching;
-mod short_runs;
-mod singly;
+
+// The rest.
+mod fast;
+mod in_place;
+pub mod laws;
 mod slice_iterator;
-mod turning;
 
 pub use compare::{Compare, Copier, Done, Work};
-pub use in_place_builder::InPlaceBuilder;
+pub use fast::moves::move_last_two;
+pub use in_place::borrowed::InPlaceMergeStateRef;
+pub use in_place::builder::InPlaceBuilder;
+pub use in_place::owned::InPlaceMergeState;
 pub use indexed::Indexed;
 pub use merge_state::{
-    BoolOpMergeState, Buffer, BufferMergeState, CountMergeState, InPlaceMergeState,
-    InPlaceMergeStateRef, MergeState, MergeStateMut, NoRoom, SmallVecMergeState,
+    BoolOpMergeState, Buffer, BufferMergeState, CountMergeState, MergeState, MergeStateMut, NoRoom,
+    SmallVecMergeState,
 };
 pub use merging::merge;
 pub use operations::{Connective, DiffOp, IntersectionOp, MergeOperation, UnionOp, XorOp};
 pub use runs::{Run, run_length};
 pub use searching::{count_up_to, search};
 pub use slice_iterator::SliceIterator;
-pub use turning::move_last_two;

@@ -1,36 +1,21 @@
 //! What a merge goes over: two unread lists, and for a merge that takes items an output. The states
-//! are below.
+//! over slices are below; those in place are in `in_place`.
 ghost use Rattle.std.specs.Prelude.{◌≡◌, ℕ, Bool, true, not, ◌&&◌, ◌≤◌, ◌<◌, List, ◌++◌, length, drop, Some, slice_get, IsTrue, IsOk, OnOk, IfOk};
 ghost use Rattle.range_merge.specs.Boundaries.{is_odd};
 ghost use Rattle.range_merge.specs.Connective.{differ};
 ghost use Rattle.range_merge.specs.Changes.{Taken, taken_left, taken_right};
 
 mod bool_op;
-mod buffer;
+pub(crate) mod buffer;
 mod count;
-mod counting;
-mod grows_at_end;
-mod in_place;
-mod in_place_plain;
-mod in_place_ref;
-mod output;
-mod over_slices;
-mod overwriting;
-mod placing;
-mod reading;
-mod small_vec;
-mod supply;
-mod vec;
+pub(crate) mod over_slices;
+pub(crate) mod small_vec;
 
 pub use bool_op::BoolOpMergeState;
 pub use buffer::{Buffer, BufferMergeState, NoRoom};
 pub use count::CountMergeState;
-pub(crate) use grows_at_end::{append_copies, append_within};
-pub use in_place::InPlaceMergeState;
-pub use in_place_ref::InPlaceMergeStateRef;
 pub use small_vec::SmallVecMergeState;
 use std::alloc::AllocError;
-pub(crate) use supply::Supply;
 
 /// Two lists, each with the items that are still unread.
 pub trait MergeState {

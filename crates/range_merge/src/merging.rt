@@ -1,23 +1,22 @@
 //! The merge: it takes the first run of the unread lists whole or drops it whole, until both lists
 //! are used up. A reader may read short runs in between.
-ghost use Rattle.std.specs.Prelude.{◌≡◌, ◌+◌, ◌*◌, ◌^◌, ◌<◌, ◌≤◌, true, false, not, ◌&&◌, List, [], ◌++◌, length, IsOk, OnOk, IfOk, IfSome, Ok, None, Some, IsTrue, ◌↔◌, ℕ, if◌then◌else◌};
-ghost use Rattle.std.specs.declared.cmp.Ordering.TheVariants.{Less, Equal, Greater};
+ghost use Rattle.std.specs.Prelude.{◌≡◌, ◌+◌, ◌*◌, ◌^◌, ◌<◌, ◌≤◌, true, false, not, ◌&&◌, List, [], ◌++◌, length, IsOk, OnOk, IfOk, IfSome, Ok, None, Some, IsTrue, ◌↔◌, ℕ};
+ghost use Rattle.std.specs.declared.cmp.Ordering.TheVariants.{Less, Greater};
 ghost use Rattle.range_merge.specs.Boundaries.{IsAscending};
 ghost use Rattle.range_merge.specs.Changes.{Taken, changes, StopsAmong};
 ghost use Rattle.range_merge.specs.Counting.{AddsAtMost};
 ghost use Rattle.range_merge.specs.Owners.{owners};
-ghost use Rattle.range_merge.specs.Parts.{GoesOn, IfOn, IsFirstRun, IsTurn, Leaves, Part, Ran};
+ghost use Rattle.range_merge.specs.Stages.{IfOn, IsFirstRun, IsTurn, Leaves, Stage, Ran};
 ghost use Rattle.range_merge.specs.Runs.{weight};
-ghost use Rattle.range_merge.specs.Steps.{ArePairs, FirstsStand, PairsGoOn, ahead_of, takes};
+ghost use Rattle.range_merge.specs.OneRun.{FirstsStand, ahead_of, takes};
 ghost use Rattle.range_merge.specs.declared.runs.Run.TheVariants.{Left, Right};
 
 use crate::compare::Compare;
 use crate::equal_pairs::steps_both;
-use crate::galloping::{Below, gallop};
+use crate::fast::short_runs::{RunsAlone, merge_reading};
 use crate::merge_state::MergeStateMut;
 use crate::operations::MergeOperation;
-use crate::runs::{LeftOf, RightOf, order_at, reversed};
-use crate::short_runs::{RunsAlone, ShortRuns};
+use crate::runs::{Below, LeftOf, RightOf, gallop, reversed};
 use std::alloc::AllocError;
 use std::cmp::Ordering;
 
@@ -65,52 +64,10 @@ pub fn merge<S: MergeStateMut, O: MergeOperation, C: Compare<S::Item>>(
     ensures comparisons { AddsAtMost (C.count cmp.old) (C.count cmp.new)
         (2 * weight C.order (S.left state.old) (S.right state.old)) }
 {
-    merge_with(state, op, cmp, &mut RunsAlone)
+    merge_reading(state, op, cmp, &mut RunsAlone)
 }
 
-/// The same merge, which lets `reader` read short runs.
-#[inline(always)]
-pub(crate) fn merge_with<
-    S: MergeStateMut,
-    O: MergeOperation,
-    C: Compare<S::Item>,
-    R: ShortRuns<S, O, C>,
->(state: &mut S, op: &O, cmp: &mut C, reader: &mut R) -> Result<bool, AllocError>
-    requires left_ascending { IsAscending C.order (S.left state.old) }
-    requires right_ascending { IsAscending C.order (S.right state.old) }
-    requires left_off { S.left_on state.old ≡ false }
-    requires right_off { S.right_on state.old ≡ false }
-    requires made { C.count cmp.old < 2 ^ 64 }
-    ensures used_up { IfOk result (λ more.
-        more ≡ true → (S.left state.new ≡ []) × (S.right state.new ≡ [])) }
-    ensures taken { IfOk result (λ more. more ≡ true → (before : List (Taken S.Item)) →
-        S.output state.old before → S.output state.new (before ++
-        changes C.order (O.connective op.now) (S.left state.old) (S.right state.old))) }
-
-    // Only a state that can stop does, and it stops exactly where something is taken: with a front
-    // of the changes, one or more, all of the run in which the first one lies.
-    ensures stopped { IfOk result (λ more. more ≡ false → (S.can_stop ≡ true)
-        × StopsAmong (owners C.order (S.left state.old) (S.right state.old))
-        (S.output state.old) (S.output state.new)
-        (changes C.order (O.connective op.now) (S.left state.old) (S.right state.old))) }
-    ensures not_stopped { S.can_stop ≡ true → IfOk result (λ more. more ≡ true
-        → changes C.order (O.connective op.now) (S.left state.old) (S.right state.old) ≡ []) }
-    ensures fixed { S.fixed state.new ≡ S.fixed state.old }
-
-    // An infallible state doesn't fail, and stays infallible.
-    ensures succeeds { S.is_infallible state.old → IsOk result }
-    ensures still_infallible { S.is_infallible state.old → OnOk result (S.is_infallible state.new) }
-
-    ensures comparisons { AddsAtMost (C.count cmp.old) (C.count cmp.new)
-        (2 * weight C.order (S.left state.old) (S.right state.old)) }
-{
-    match take_runs(state, op, cmp, reader)? {
-        Went::Stopped => Ok(false),
-        Went::On(_) => take_rest(state, op),
-    }
-}
-
-/// How a part of a merge went.
+/// How a stage of a merge went.
 #[derive(Clone, Copy)]
 pub(crate) enum Went {
     /// The state stopped.
@@ -119,73 +76,10 @@ pub(crate) enum Went {
     On(Option<Ordering>),
 }
 
-// Takes runs or drops them, while both lists have items: whole runs for some rounds, then what the
-// reader reads of short ones, and so by turns.
+/// Takes runs or drops them, for `rounds` rounds, or fewer if a list is used up; for `None`, until
+/// then. Each round leaves one comparison of those that twice the weight allows.
 #[inline(always)]
-fn take_runs<S: MergeStateMut, O: MergeOperation, C: Compare<S::Item>, R: ShortRuns<S, O, C>>(
-    state: &mut S,
-    op: &O,
-    cmp: &mut C,
-    reader: &mut R,
-) -> Result<Went, AllocError>
-    requires left_ascending { IsAscending C.order (S.left state.old) }
-    requires right_ascending { IsAscending C.order (S.right state.old) }
-    requires made { C.count cmp.old < 2 ^ 64 }
-    ensures part { Part S.left S.right S.left_on S.right_on S.output S.fixed S.is_infallible
-        S.can_stop C.order (O.connective op.now) state.old state.new
-        0 (C.count cmp.old) (C.count cmp.new) result }
-    ensures used_up { IfOk result (IfOn (λ next. next ≡ None)) }
-{
-    // Both are called for their clause that a length is within usize, which the proof cites.
-    let _lengths = (state.a_len(), state.b_len());
-    let mut firsts = order_at(state, 0, cmp);
-    while firsts.is_some() {
-        let Went::On(next) = take_rounds(state, op, firsts, reader.rounds(), cmp)? else {
-            return Ok(Went::Stopped);
-        };
-        firsts = read_on(state, op, next, cmp, reader);
-    }
-    Ok(Went::On(firsts))
-}
-
-// Lets the reader read short runs, if both lists have items.
-#[inline(always)]
-fn read_on<S: MergeStateMut, O: MergeOperation, C: Compare<S::Item>, R: ShortRuns<S, O, C>>(
-    state: &mut S,
-    op: &O,
-    firsts: Option<Ordering>,
-    cmp: &mut C,
-    reader: &mut R,
-) -> Option<Ordering>
-    requires stands { FirstsStand C.order (S.left state.old) (S.right state.old) firsts }
-    requires left_ascending { IsAscending C.order (S.left state.old) }
-    requires right_ascending { IsAscending C.order (S.right state.old) }
-    requires fits { length (S.left state.old) + length (S.right state.old) < 2 ^ 65 }
-    requires made { C.count cmp.old < 2 ^ 126 }
-    ensures goes_on { GoesOn S.left S.right S.left_on S.right_on S.output S.fixed S.is_infallible
-        S.can_stop C.order (O.connective op.now) state.old state.new result }
-    ensures no_longer { length (S.left state.new) + length (S.right state.new)
-        ≤ length (S.left state.old) + length (S.right state.old) }
-    ensures fixed { S.fixed state.new ≡ S.fixed state.old }
-    ensures still_infallible { S.is_infallible state.old → S.is_infallible state.new }
-    ensures ended { firsts ≡ None →
-        (result ≡ None) × (C.count cmp.new ≡ C.count cmp.old) × (state.new ≡ state.old) }
-    ensures some { (how : Ordering) → firsts ≡ Some how →
-        (next : Ordering) × (result ≡ Some next) }
-    ensures comparisons { C.count cmp.new + 2 * weight C.order (S.left state.new) (S.right state.new)
-        ≤ C.count cmp.old + 2 * weight C.order (S.left state.old) (S.right state.old) + 6 }
-    ensures made { C.count cmp.old ≤ C.count cmp.new }
-{
-    match firsts {
-        Some(next) => Some(reader.read(state, op, next, cmp)),
-        None => None,
-    }
-}
-
-// Takes runs or drops them, for `rounds` rounds, or fewer if a list is used up; for `None`, until
-// then. Each round leaves one comparison of those that twice the weight allows.
-#[inline(always)]
-fn take_rounds<S: MergeStateMut, O: MergeOperation, C: Compare<S::Item>>(
+pub(crate) fn take_rounds<S: MergeStateMut, O: MergeOperation, C: Compare<S::Item>>(
     state: &mut S,
     op: &O,
     firsts: Option<Ordering>,
@@ -197,7 +91,7 @@ fn take_rounds<S: MergeStateMut, O: MergeOperation, C: Compare<S::Item>>(
     requires right_ascending { IsAscending C.order (S.right state.old) }
     requires fits { length (S.left state.old) + length (S.right state.old) < 2 ^ 65 }
     requires made { C.count cmp.old < 2 ^ 125 }
-    ensures part { Part S.left S.right S.left_on S.right_on S.output S.fixed S.is_infallible
+    ensures stage { Stage S.left S.right S.left_on S.right_on S.output S.fixed S.is_infallible
         S.can_stop C.order (O.connective op.now) state.old state.new
         (ahead_of firsts) (C.count cmp.old) (C.count cmp.new) result }
     ensures no_longer { IfOk result (IfOn (λ _.
@@ -214,9 +108,9 @@ fn take_rounds<S: MergeStateMut, O: MergeOperation, C: Compare<S::Item>>(
     ensures whole { rounds ≡ None → IfOk result (IfOn (λ next. next ≡ None)) }
 {
     let mut firsts = firsts;
-    let mut left = rounds;
+    let mut remaining = rounds;
     while firsts.is_some() {
-        if left == Some(0) {
+        if remaining == Some(0) {
             return Ok(Went::On(firsts));
         }
         let Went::On(next) = step_left(state, op, firsts, cmp)? else {
@@ -229,7 +123,7 @@ fn take_rounds<S: MergeStateMut, O: MergeOperation, C: Compare<S::Item>>(
             return Ok(Went::Stopped);
         };
         firsts = next;
-        left = one_less(left);
+        remaining = one_less(remaining);
     }
     Ok(Went::On(firsts))
 }
@@ -240,7 +134,7 @@ fn one_less(rounds: Option<u32>) -> Option<u32>
     requires { IfSome rounds (λ n. 1 ≤ n) }
     ensures none { rounds ≡ None → result ≡ None }
     ensures some { (n : ℕ) → rounds ≡ Some n →
-        (left : ℕ) × (result ≡ Some left) × (left + 1 ≡ n) }
+        (remaining : ℕ) × (result ≡ Some remaining) × (remaining + 1 ≡ n) }
 {
     match rounds {
         Some(n) => Some(n - 1),
@@ -260,7 +154,7 @@ fn step_left<S: MergeStateMut, O: MergeOperation, C: Compare<S::Item>>(
     requires left_ascending { IsAscending C.order (S.left state.old) }
     requires right_ascending { IsAscending C.order (S.right state.old) }
     requires made { C.count cmp.old < 2 ^ 127 }
-    ensures part { Part S.left S.right S.left_on S.right_on S.output S.fixed S.is_infallible
+    ensures stage { Stage S.left S.right S.left_on S.right_on S.output S.fixed S.is_infallible
         S.can_stop C.order (O.connective op.now) state.old state.new
         (ahead_of firsts) (C.count cmp.old) (C.count cmp.new) result }
     ensures turn { IfOk result (IfOn (λ next. IsTurn Less firsts next
@@ -293,7 +187,7 @@ fn step_right<S: MergeStateMut, O: MergeOperation, C: Compare<S::Item>>(
     requires left_ascending { IsAscending C.order (S.left state.old) }
     requires right_ascending { IsAscending C.order (S.right state.old) }
     requires made { C.count cmp.old < 2 ^ 127 }
-    ensures part { Part S.left S.right S.left_on S.right_on S.output S.fixed S.is_infallible
+    ensures stage { Stage S.left S.right S.left_on S.right_on S.output S.fixed S.is_infallible
         S.can_stop C.order (O.connective op.now) state.old state.new
         (ahead_of firsts) (C.count cmp.old) (C.count cmp.new) result }
     ensures turn { IfOk result (IfOn (λ next. IsTurn Greater firsts next
@@ -322,9 +216,12 @@ pub(crate) fn stand(firsts: Option<Ordering>, how: Ordering) -> bool
     firsts == Some(how)
 }
 
-// Takes or drops what is left where one list is used up: it is one run, and needs no comparison.
+/// Takes or drops what is left where one list is used up: it is one run, and needs no comparison.
 #[inline(always)]
-fn take_rest<S: MergeStateMut, O: MergeOperation>(state: &mut S, op: &O) -> Result<bool, AllocError>
+pub(crate) fn take_rest<S: MergeStateMut, O: MergeOperation>(
+    state: &mut S,
+    op: &O,
+) -> Result<bool, AllocError>
     requires used_up { 1 ≤ length (S.left state.old) → length (S.right state.old) ≡ 0 }
     ensures left { 1 ≤ length (S.left state.old) →
         Ran S.left S.right S.left_on S.right_on S.output S.fixed S.is_infallible S.can_stop

@@ -1,19 +1,19 @@
 //! Merges in place, where the list lies.
 //!
-//! In Rattle a gap in a list is filled with blank items, which ask for a default value. Here
-//! nothing lies in a gap, so that any element will do: the merge runs over [`Slot`]s of lists that
+//! In Rattle a hole in a list is filled with blank items, which ask for a default value. Here
+//! nothing lies in a hole, so that any element will do: the merge runs over [`Slot`]s of lists that
 //! are [`Opened`].
 
 use super::by_bits::ByBits;
 use super::opened::{Emptied, Opened};
 use super::slot::{BySlots, OfSlots, Slot};
 use super::{AllocError, SmallVec};
-use crate::generated::range_merge::in_place_memory::{prepared, prepared_copies};
-use crate::generated::range_merge::merge_state::in_place::OwnedRight;
-use crate::generated::range_merge::merge_state::in_place_plain::merged_plainly;
-use crate::generated::range_merge::merge_state::in_place_ref::{BorrowedRight, CopiedRight};
-use crate::generated::range_merge::merge_state::placing::PlacingMergeState;
-use crate::generated::range_merge::merge_state::supply::Supply;
+use crate::generated::range_merge::fast::in_place_plain::merged_plainly;
+use crate::generated::range_merge::in_place::borrowed::{BorrowedRight, CopiedRight};
+use crate::generated::range_merge::in_place::memory::{prepared, prepared_copies};
+use crate::generated::range_merge::in_place::owned::OwnedRight;
+use crate::generated::range_merge::in_place::right::Supply;
+use crate::generated::range_merge::in_place::InPlaceState;
 use crate::generated::range_merge::{Compare, Copier, MergeOperation};
 use core::marker::PhantomData;
 
@@ -96,6 +96,6 @@ fn merge_opened<K, R: Supply<Slot<K>>, O: MergeOperation, C: Compare<K>, const N
     op: &O,
     cmp: &mut C,
 ) {
-    let state = PlacingMergeState::<Slot<K>, N, R, _>::over(Opened::over(a), right, extra);
+    let state = InPlaceState::<Slot<K>, N, R, _>::over(Opened::over(a), right, extra);
     state.merged(op, &mut BySlots(cmp)).close();
 }

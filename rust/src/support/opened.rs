@@ -2,9 +2,9 @@
 
 use super::slot::Slot;
 use super::SmallVec;
-use crate::generated::range_merge::in_place_list::{Exchanges, GrowsByGap};
+use crate::generated::range_merge::in_place::list::{Exchanges, GrowsByHole};
+use crate::generated::range_merge::in_place::right::Supply;
 use crate::generated::range_merge::indexed::Indexed;
-use crate::generated::range_merge::merge_state::supply::Supply;
 use core::marker::PhantomData;
 use core::mem;
 use core::ptr;
@@ -12,7 +12,7 @@ use core::slice;
 
 /// A borrowed list whose items are moved within its room.
 ///
-/// The items before `front` and those from `back` up to `len` are there; between them lies a gap
+/// The items before `front` and those from `back` up to `len` are there; between them lies a hole
 /// without items. While the list is open its own length is 0, so whatever happens, as a panic in a
 /// comparison, no item is dropped twice: [`close`](Self::close) sets the length, and a drop without
 /// it drops all items and leaves the list empty.
@@ -55,17 +55,17 @@ impl<'a, K, const N: usize> Opened<'a, K, N> {
     ///
     /// # Panics
     ///
-    /// Where there is a gap.
+    /// Where there is a hole.
     #[inline]
     pub fn close(self) {
-        assert!(self.front == self.back, "the list has a gap");
+        assert!(self.front == self.back, "the list has a hole");
         let (list, len) = (self.list, self.len);
         mem::forget(self);
-        // SAFETY: without a gap the items up to `len` are there, and nothing else has the list.
+        // SAFETY: without a hole the items up to `len` are there, and nothing else has the list.
         unsafe { (*list).set_len(len) };
     }
 
-    /// Makes one gap of the places from `from` up to `to` and the gap that is there, and drops the
+    /// Makes one hole of the places from `from` up to `to` and the hole that is there, and drops the
     /// items in it.
     #[inline(always)]
     fn clear(&mut self, from: usize, to: usize) {
@@ -77,7 +77,7 @@ impl<'a, K, const N: usize> Opened<'a, K, N> {
             return;
         }
         let (front, back) = (self.front, self.back);
-        assert!(from <= front && back <= to.max(back), "a second gap");
+        assert!(from <= front && back <= to.max(back), "a second hole");
         self.front = from;
         self.back = to.max(back);
         self.drop_items(from, front);
@@ -86,10 +86,10 @@ impl<'a, K, const N: usize> Opened<'a, K, N> {
         }
     }
 
-    /// Drops the items from `from` up to `to`. They are there, and lie in the gap by now.
+    /// Drops the items from `from` up to `to`. They are there, and lie in the hole by now.
     #[inline(always)]
     fn drop_items(&mut self, from: usize, to: usize) {
-        // SAFETY: no item in the gap is dropped again, also where one of these panics.
+        // SAFETY: no item in the hole is dropped again, also where one of these panics.
         unsafe { drop_items(self.items, from, to) };
     }
 
@@ -133,7 +133,7 @@ impl<K, const N: usize> Indexed<Slot<K>> for Opened<'_, K, N> {
     }
 }
 
-impl<K, const N: usize> GrowsByGap<Slot<K>> for Opened<'_, K, N> {
+impl<K, const N: usize> GrowsByHole<Slot<K>> for Opened<'_, K, N> {
     #[inline(always)]
     fn move_down(&mut self, to: usize, from: usize, n: usize) {
         if to == from {
@@ -149,7 +149,7 @@ impl<K, const N: usize> GrowsByGap<Slot<K>> for Opened<'_, K, N> {
     }
 
     #[inline(never)]
-    fn open_gap(&mut self, at: usize, n: usize) {
+    fn open_hole(&mut self, at: usize, n: usize) {
         assert!(n <= self.room - self.len, "no room");
         if self.front != self.back {
             self.clear(self.front, at);
@@ -266,7 +266,7 @@ impl<K, const N: usize> Exchanges<Slot<K>> for &mut Emptied<'_, K, N> {
         self.skip_to(at);
         self.front = at + n;
         // SAFETY: the items are there, and lie before the front by now. The slots are those of a
-        // gap in another list.
+        // hole in another list.
         unsafe { ptr::copy_nonoverlapping(self.items.add(at), others.as_mut_ptr(), n) };
     }
 }

@@ -5,7 +5,7 @@ use crate::generated::range_merge::{Compare, Copier};
 use core::cmp::Ordering;
 use core::mem::MaybeUninit;
 
-/// Room for an item. Merges in place run over these, so that a gap needs no items.
+/// Room for an item. Merges in place run over these, so that a hole needs no items.
 ///
 /// Only the list that they are of knows which hold an item: see [`Opened`](super::opened::Opened).
 #[repr(transparent)]

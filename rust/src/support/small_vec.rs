@@ -3,7 +3,7 @@
 use super::opened::Opened;
 use super::vec::list_calls;
 use super::{AllocError, AllocFailed, Global, Vec};
-use crate::generated::range_merge::in_place_list::GrowsByGap;
+use crate::generated::range_merge::in_place::list::GrowsByHole;
 use crate::generated::range_merge::indexed::Indexed;
 use crate::generated::range_merge::Copier;
 use core::mem;

@@ -3,7 +3,7 @@ ghost use Rattle.std.specs.Prelude.{◌≡◌, ℕ, ◌+◌, ◌*◌, ◌≤◌,
 ghost use Rattle.std.specs.declared.alloc.AllocError.{AllocError as TheAllocError};
 ghost use Rattle.range_merge.specs.Connective.{Table, Means};
 ghost use Rattle.range_merge.specs.Runs.{weight};
-ghost use Rattle.range_collections.specs.Headline.{EveryElement, IsItself, IsTheResult, GivesTheResult, BecomesTheResult, BecomesTheOwnResult, IsCounted, IsTheNegation};
+ghost use Rattle.range_collections.specs.Headline.{EveryElement, IsItself, IsTheResult, GivesTheResult, BecomesTheResult, BecomesTheOwnResult, CostsTwiceWeight, IsTheNegation};
 ghost use Rattle.range_collections.specs.InPlace.{AreOwnElseOf};
 ghost use Rattle.range_collections.specs.Sets.{AreEqual};
 ghost use Rattle.range_collections.specs.Values.{MeansAmong};
@@ -40,7 +40,7 @@ pub fn the_headline_is_what_the_clauses_say<T: RangeSetEntry + EntryClone>()
         AreOwnElseOf T.cmp a b items }
     ensures comparisons { (f : Table) (a b : List T) (r : Result (List T) TheAllocError)
         (before after : ℕ) →
-        IsCounted T.cmp a b before after (GivesTheResult T.cmp T.is_copy f a b r) →
+        CostsTwiceWeight T.cmp a b before after (GivesTheResult T.cmp T.is_copy f a b r) →
         GivesTheResult T.cmp T.is_copy f a b r × (after ≤ before + 2 * weight T.cmp a b) }
     ensures negation { (a items other : List T) →
         All T.is_value items → All T.is_value other →

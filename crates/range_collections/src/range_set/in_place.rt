@@ -10,7 +10,7 @@ ghost use Rattle.std.specs.Prelude.{◌≡◌, ◌*◌, ◌^◌, ◌<◌, false}
 ghost use Rattle.range_merge.specs.Connective.{union_table, intersection_table, difference_table, symmetric_difference_table};
 ghost use Rattle.range_merge.specs.Counting.{AddsAtMost};
 ghost use Rattle.range_merge.specs.Runs.{weight};
-ghost use Rattle.range_collections.specs.Headline.{BecomesTheResult, BecomesTheOwnResult, IsCounted};
+ghost use Rattle.range_collections.specs.Headline.{BecomesTheResult, BecomesTheOwnResult, CostsTwiceWeight};
 ghost use Rattle.range_collections.specs.InPlace.{IsChangedByView, IsChangedByOwned};
 
 use crate::comparisons::{Comparisons, EntryCopier};
@@ -38,7 +38,7 @@ impl<T: EntryClone + MadeWith<Global> + Drop, const N: usize> RangeSet<T, N> {
     ) -> Result<(), AllocError>
         requires off { O.connective op.now false false ≡ false }
         requires made { count.old < 2 ^ 64 }
-        ensures headline { IsCounted T.cmp self.old that.entry.boundaries.now count.old count.new
+        ensures headline { CostsTwiceWeight T.cmp self.old that.entry.boundaries.now count.old count.new
             (BecomesTheResult T.cmp T.is_copy (O.connective op.now)
             self.old that.entry.boundaries.now self.new result) }
         ensures changed { IsChangedByView T.cmp T.is_copy T.is_infallible (O.connective op.now) N
@@ -124,7 +124,7 @@ impl<T: Ord + MadeWith<Global> + Drop, const N: usize> RangeSet<T, N> {
     ) -> Result<(), (AllocError, Self)>
         requires off { O.connective op.now false false ≡ false }
         requires made { count.old < 2 ^ 64 }
-        ensures headline { IsCounted T.cmp self.old that count.old count.new
+        ensures headline { CostsTwiceWeight T.cmp self.old that count.old count.new
             (BecomesTheOwnResult T.cmp (O.connective op.now) self.old that self.new result) }
         ensures changed { IsChangedByOwned T.cmp (O.connective op.now) N
             self.old that self.new result }

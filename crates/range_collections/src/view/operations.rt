@@ -6,7 +6,7 @@ ghost use Rattle.range_merge.specs.Connective.{Means, opposite, union_table, int
 ghost use Rattle.range_merge.specs.Copies.{AreCopies};
 ghost use Rattle.range_merge.specs.Counting.{AddsAtMost};
 ghost use Rattle.range_merge.specs.Runs.{weight};
-ghost use Rattle.range_collections.specs.Headline.{GivesTheResult, IsTheResult, IsCounted};
+ghost use Rattle.range_collections.specs.Headline.{GivesTheResult, IsTheResult, CostsTwiceWeight};
 ghost use Rattle.range_collections.specs.Operators.{GivesOperation};
 ghost use Rattle.range_collections.specs.Values.{MeansAmong, AreFlipped, EqualsAreValues};
 ghost use Rattle.range_collections.specs.Buffers.{WritesOperation};
@@ -42,7 +42,7 @@ impl<'a, T: EntryClone + MadeWith<Global> + Drop> RangeSetRef<'a, T> {
     ) -> Result<RangeSet<T, M>, AllocError>
         requires off { O.connective op.now false false ≡ false }
         requires made { count.old < 2 ^ 64 }
-        ensures headline { IsCounted T.cmp self.now.boundaries.now that.entry.boundaries.now
+        ensures headline { CostsTwiceWeight T.cmp self.now.boundaries.now that.entry.boundaries.now
             count.old count.new (GivesTheResult T.cmp T.is_copy (O.connective op.now)
             self.now.boundaries.now that.entry.boundaries.now result) }
         ensures gives { GivesOperation T.cmp T.is_copy T.is_infallible (O.connective op.now) M
@@ -182,7 +182,7 @@ impl<'a, T: RangeSetEntry + EntryClone + MadeWith<Global> + Drop> RangeSetRef<'a
         count: &mut Comparisons,
     ) -> Result<RangeSet<T, M>, AllocError>
         requires made { count.old < 2 ^ 64 }
-        ensures headline { IsCounted T.cmp self.now.boundaries.now that.entry.boundaries.now
+        ensures headline { CostsTwiceWeight T.cmp self.now.boundaries.now that.entry.boundaries.now
             count.old count.new (IfOk result (IsTheResult T.cmp T.is_value (O.connective op.now)
             self.now.boundaries.now that.entry.boundaries.now T.is_copy T.is_copy)) }
         ensures means { IfOk result (λ set. MeansAmong T.cmp T.is_value (O.connective op.now) set

@@ -7,8 +7,7 @@ ghost use Rattle.range_merge.specs.Runs.{weight};
 ghost use Rattle.range_merge.specs.States.{any_item};
 
 use crate::compare::Compare;
-use crate::merge_state::output::Output;
-use crate::merge_state::over_slices::SliceMergeState;
+use crate::merge_state::over_slices::{Output, SliceMergeState};
 use crate::merging;
 use crate::operations::MergeOperation;
 use std::alloc::AllocError;

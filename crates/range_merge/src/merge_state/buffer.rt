@@ -8,16 +8,13 @@ ghost use Rattle.range_merge.specs.Changes.{changes, from_left, taken_items};
 ghost use Rattle.range_merge.specs.Buffers.{IsFilled};
 ghost use Rattle.range_merge.specs.Counting.{AddsAtMost};
 ghost use Rattle.range_merge.specs.Runs.{weight};
-ghost use Rattle.range_merge.specs.Singly.{IsRead};
-ghost use Rattle.range_merge.specs.Reading.{CanRead};
 
-use crate::compare::{Compare, Copier, Done};
-use crate::merge_state::output::Output;
-use crate::merge_state::over_slices::SliceMergeState;
-use crate::merge_state::reading::{Room, Singly};
+use crate::compare::{Compare, Copier};
+use crate::fast::short_runs::into_output::Singly;
+use crate::fast::short_runs::merge_reading;
+use crate::merge_state::over_slices::{Output, SliceMergeState};
 use crate::merging;
 use crate::operations::MergeOperation;
-use crate::singly::{ReadSoFar, read_singly};
 use std::alloc::AllocError;
 use std::mem::size_of_val;
 
@@ -121,7 +118,7 @@ impl<'a, 'o, K: Copy> BufferMergeState<'a, 'o, K> {
         };
         // Nothing is lost: the buffer counts also what it has no room for.
         if let Some(mut reader) = Singly::of(&copier) {
-            let _ = merging::merge_with(&mut state, op, cmp, &mut reader);
+            let _ = merge_reading(&mut state, op, cmp, &mut reader);
             return state.result();
         }
         let _ = merging::merge(&mut state, op, cmp);
@@ -154,9 +151,9 @@ impl<'o, K: Copy> Output<K, ()> for Buffer<'o, K> {
     }
 }
 
-// Copies items that are `Copy`, which are plain data.
+/// Copies items that are `Copy`, which are plain data.
 #[derive(Drop)]
-struct ByCopy {
+pub(crate) struct ByCopy {
     // Whether they are short, so that to hold copies of them is worth it.
     are_short: bool,
 }
@@ -184,55 +181,6 @@ fn are_short<K>(items: &[K]) -> bool {
         Some(item) => size_of_val(item) <= 8,
         None => false,
     }
-}
-
-impl<'o, K: Copy, O: MergeOperation, C: Compare<K>> Room<K, (), ByCopy, O, C> for Buffer<'o, K> {
-    #[inline(always)]
-    fn read(
-        &mut self,
-        a: &[K],
-        b: &[K],
-        from: ReadSoFar,
-        op: &O,
-        copier: &ByCopy,
-        cmp: C,
-        _n: usize,
-    ) -> Done<C, ReadSoFar> {
-        let at = self.given.min(self.items.len());
-        let read = read_behind(a, b, from, op, copier, cmp, &mut self.items[at..]);
-        self.given += read.answer.k;
-        read
-    }
-}
-
-// Reads short runs to the front of the slice, which stays as it was behind them.
-#[inline(never)]
-fn read_behind<K: Copy, O: MergeOperation, C: Compare<K>>(
-    a: &[K],
-    b: &[K],
-    from: ReadSoFar,
-    op: &O,
-    copier: &ByCopy,
-    cmp: C,
-    out: &mut [K],
-) -> Done<C, ReadSoFar>
-    requires can_read { CanRead C.order (λ x y. y ≡ x) (λ _. ⊤) (drop from.i a.now) (drop from.j b.now)
-        from.next }
-    requires made { C.count cmp < 2 ^ 126 }
-    ensures read { IsRead (λ x y. y ≡ x) C.order (O.connective op.now) a.now b.now from.i from.j
-        result.answer.i result.answer.j (take result.answer.k out.new) result.answer.next }
-    ensures behind { drop result.answer.k out.new ≡ drop result.answer.k out.old }
-    ensures within { result.answer.k ≤ length out.new }
-    ensures at_most { result.answer.k + (from.i + from.j) ≤ result.answer.i + result.answer.j }
-    ensures len { length out.new ≡ length out.old }
-    ensures comparisons { C.count result.cmp
-        + 2 * weight C.order (drop result.answer.i a.now) (drop result.answer.j b.now)
-        ≤ C.count cmp + 2 * weight C.order (drop from.i a.now) (drop from.j b.now) + 6 }
-    ensures made { C.count cmp ≤ C.count result.cmp }
-{
-    let mut cmp = cmp;
-    let answer = read_singly(a, b, from, op, copier, &mut cmp, out, true);
-    Done { cmp, answer }
 }
 
 /// Changes nothing. Using the slice ties it to the borrowed one, whose last items are then known.

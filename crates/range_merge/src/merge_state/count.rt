@@ -6,9 +6,9 @@ ghost use Rattle.range_merge.specs.Counting.{AddsAtMost};
 ghost use Rattle.range_merge.specs.Runs.{weight};
 
 use crate::compare::Compare;
-use crate::merge_state::counting::ByPlace;
-use crate::merge_state::output::Output;
-use crate::merge_state::over_slices::SliceMergeState;
+use crate::fast::short_runs::counted::ByPlace;
+use crate::fast::short_runs::merge_reading;
+use crate::merge_state::over_slices::{Output, SliceMergeState};
 use crate::merging;
 use crate::operations::MergeOperation;
 use std::alloc::AllocError;
@@ -52,7 +52,7 @@ impl<'a, K> CountMergeState<'a, K> {
         let mut state = Self::new(a, b);
         let mut reader = ByPlace::of(&state);
         // Nothing is lost: a count never stops a merge, and never fails.
-        let _ = merging::merge_with(&mut state, op, cmp, &mut reader);
+        let _ = merge_reading(&mut state, op, cmp, &mut reader);
         state.result()
     }
 }

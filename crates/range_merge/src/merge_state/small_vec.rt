@@ -1,18 +1,19 @@
 //! A merge that copies what is taken into a list.
-ghost use Rattle.std.specs.Prelude.{◌≡◌, ◌+◌, ◌*◌, ◌^◌, ◌<◌, ◌≤◌, ◌↔◌, false, [], length, map, All, IsTrue, IfOk, ⊤};
+ghost use Rattle.std.specs.Prelude.{◌≡◌, ◌+◌, ◌*◌, ◌^◌, ◌<◌, ◌≤◌, ◌↔◌, false, [], length, map, All, IsTrue, IfOk, ⊤, ℕ, Bool, true, List, ◌++◌, ◌∷◌, IsOk, IsErr, OnOk};
+ghost use Rattle.std.specs.Vec.{vec_capacity};
+ghost use Rattle.smallvec.specs.SmallVec.{HasRoomFor};
 ghost use Rattle.range_merge.specs.Boundaries.{IsAscending};
 ghost use Rattle.range_merge.specs.Changes.{changes, from_left};
-ghost use Rattle.range_merge.specs.Copies.{AreCopies, AreKeptThenCopies};
+ghost use Rattle.range_merge.specs.Copies.{AreCopies, AreKeptThenCopies, IsAppended, items_if};
 ghost use Rattle.range_merge.specs.Counting.{AddsAtMost};
 ghost use Rattle.range_merge.specs.Filling.{FitInline, GivesCopies};
 ghost use Rattle.range_merge.specs.Runs.{weight};
 ghost use Rattle.range_merge.specs.States.{HasRoomForAll};
 
 use crate::compare::{Compare, Copier};
-use crate::merge_state::grows_at_end::append_copies;
-use crate::merge_state::output::Output;
-use crate::merge_state::over_slices::SliceMergeState;
-use crate::merge_state::reading::Singly;
+use crate::fast::short_runs::into_output::Singly;
+use crate::fast::short_runs::merge_reading;
+use crate::merge_state::over_slices::{COPIED_AT_ONCE, Output, SliceMergeState};
 use crate::merging;
 use crate::operations::MergeOperation;
 use smallvec::SmallVec;
@@ -135,12 +136,12 @@ impl<'a, K: MadeWith<Global> + Drop, P: Copier<K>, const M: usize> SmallVecMerge
         let mut list = r.into_vec()?;
         // Where there is no room for both at once, the list grows run by run.
         let _asked = list.reserve(a.len().saturating_add(b.len()));
-        Ok(inline_if_few(Self::merge_into(list, a, b, copier, op, cmp)?))
+        Ok(inline_if_few(Self::merge_to_vec(list, a, b, copier, op, cmp)?))
     }
 
     /// Appends to the empty list. It asks for no memory where there is room for both lengths (seen
     /// by reading).
-    pub(crate) fn merge_into<O: MergeOperation, C: Compare<K>>(
+    pub(crate) fn merge_to_vec<O: MergeOperation, C: Compare<K>>(
         list: Vec<K>,
         a: &'a [K],
         b: &'a [K],
@@ -167,7 +168,7 @@ impl<'a, K: MadeWith<Global> + Drop, P: Copier<K>, const M: usize> SmallVecMerge
             },
         );
         let _went_through = match Singly::of(copier) {
-            Some(mut reader) => merging::merge_with(&mut state, op, cmp, &mut reader)?,
+            Some(mut reader) => merge_reading(&mut state, op, cmp, &mut reader)?,
             None => merging::merge(&mut state, op, cmp)?,
         };
         Ok(state.result())
@@ -222,6 +223,126 @@ impl<'a, K: MadeWith<Global> + Drop, P: Copier<K>, const M: usize> Output<K, Cop
     #[inline(always)]
     fn append(&mut self, items: &[K], take: bool, by: &Copying<'a, P>) -> Result<bool, AllocError> {
         append_copies(self, items, take, by.copier)?;
+        Ok(true)
+    }
+}
+
+/// A list that grows at its end.
+pub trait GrowsAtEnd<K> {
+    // The items, and how many have room.
+    ghost items: { Self → List K };
+
+    ghost room: { Self → ℕ };
+
+    /// Makes room for `n` more items.
+    fn reserve(&mut self, n: usize) -> Result<(), AllocError>
+        ensures items { items self.new ≡ items self.old }
+        ensures ok { OnOk result (length (items self.new) + n ≤ room self.new) }
+        ensures succeeds { length (items self.old) + n ≤ room self.old → IsOk result }
+        ensures had_room { length (items self.old) + n ≤ room self.old → room self.new ≡ room self.old };
+
+    /// Appends an item where there is room.
+    fn push(&mut self, item: K)
+        requires { length (items self.old) < room self.old }
+        ensures items { items self.new ≡ items self.old ++ item ∷ [] }
+        ensures room { room self.new ≡ room self.old };
+}
+
+impl<K: MadeWith<Global> + Drop, const M: usize> GrowsAtEnd<K> for SmallVec<K, M> {
+    ghost items = { λ list. list.items };
+
+    ghost room = { λ list. list.capacity };
+
+    #[inline(always)]
+    fn reserve(&mut self, n: usize) -> Result<(), AllocError> {
+        SmallVec::reserve(self, n)
+    }
+
+    #[inline(always)]
+    fn push(&mut self, item: K) {
+        self.push_reserved(item);
+    }
+}
+
+impl<K> GrowsAtEnd<K> for Vec<K> {
+    ghost items = { λ list. list.items };
+
+    ghost room = { λ list. vec_capacity list };
+
+    #[inline(always)]
+    fn reserve(&mut self, n: usize) -> Result<(), AllocError> {
+        if n <= self.capacity() - self.len() {
+            return Ok(());
+        }
+        Vec::reserve(self, n)
+    }
+
+    #[inline(always)]
+    fn push(&mut self, item: K) {
+        self.push_reserved(item);
+    }
+}
+
+// Appends copies of the items, if they are taken. It asks for room once.
+#[inline(always)]
+pub(crate) fn append_copies<K, P: Copier<K>, L: GrowsAtEnd<K>>(
+    list: &mut L,
+    items: &[K],
+    take: bool,
+    copier: &P,
+) -> Result<(), AllocError>
+    ensures copied { OnOk result (IsAppended P.alike (items_if take items.now) (L.items list.old) (L.items list.new)) }
+    ensures succeeds { length (L.items list.old) + length items.now ≤ L.room list.old → All P.is_infallible items.now → IsOk result }
+    ensures had_room { OnOk result (length (L.items list.old) + length items.now ≤ L.room list.old → L.room list.new ≡ L.room list.old) }
+{
+    if !take {
+        return Ok(());
+    }
+    list.reserve(items.len())?;
+    for item in items {
+        list.push(copier.copy(item)?);
+    }
+    Ok(())
+}
+
+/// Appends copies of items, for which there is room, and none of which fails.
+pub(crate) fn append_within<K: MadeWith<Global> + Drop, P: Copier<K>, const N: usize>(
+    list: &mut SmallVec<K, N>,
+    items: &[K],
+    copier: &P,
+)
+    requires room { HasRoomFor list.old (length items.now) }
+    requires infallible { (x : K) → P.is_infallible x }
+    ensures copied { IsAppended P.alike items.now list.old.items list.new.items }
+    ensures room { list.new.capacity ≡ list.old.capacity }
+{
+    match append_copies(list, items, true, copier) {
+        Ok(()) => {}
+        Err(_) => unreachable!(),
+    }
+}
+
+impl<'a, K, P: Copier<K>> Output<K, Copying<'a, P>> for Vec<K> {
+    ghost may_be = { λ list at_first ts. AreKeptThenCopies P.alike at_first ts list.items };
+
+    ghost fixed = { λ _ by. by.at_first };
+
+    ghost can_stop = { false };
+
+    ghost fits = { λ _ _. ⊤ };
+
+    // Nothing is said of when it succeeds: it serves where memory may be asked for.
+    ghost has_room = { λ _ _. ⊥ };
+
+    ghost is_infallible = { P.is_infallible };
+
+    #[inline(always)]
+    fn append(&mut self, items: &[K], take: bool, by: &Copying<'a, P>) -> Result<bool, AllocError> {
+        if items.len() < COPIED_AT_ONCE {
+            append_copies(self, items, take, by.copier)?;
+        } else if take {
+            by.copier.append(self, items)?;
+        }
         Ok(true)
     }
 }

@@ -2,7 +2,7 @@
 //! What a merge is given to compare and to copy items. Nothing in this crate can make either, so
 //! each comparison of items is one call that its caller counts.
 //!
-//! A comparer itself may have a part of a merge done by another one that it makes (`apart`), and
+//! A comparer itself may have a stage of a merge done by another one that it makes (`apart`), and
 //! counts what that made. No comparison hides there: work that is given a comparer has to give it
 //! back, since it can't be dropped, and the comparer's count grows by as many as it made.
 
@@ -40,7 +40,7 @@ pub trait Compare<K>: Sized {
     }
 }
 
-/// What a comparer of type `C` has done by another one: a part of a merge.
+/// What a comparer of type `C` has done by another one: a stage of a merge.
 pub trait Work<K, C: Compare<K>> {
     /// What it answers.
     type Answer;

@@ -21,15 +21,15 @@ pub(crate) fn steps_both<S: MergeStateMut, O: MergeOperation, C: Compare<S::Item
     mut firsts: Option<Ordering>,
     cmp: &mut C,
 ) -> Result<Went, AllocError> {
-    let mut left = 0;
+    let mut remaining = 0;
     while stand(firsts, Ordering::Equal) {
-        let pairs = next_pairs(state, left, cmp);
+        let pairs = next_pairs(state, remaining, cmp);
         let next = match step_pairs(state, op, pairs.eight, cmp)? {
             Went::On(next) => next,
             _ => return Ok(Went::Stopped),
         };
         firsts = next;
-        left = pairs.left;
+        remaining = pairs.remaining;
     }
     Ok(Went::On(firsts))
 }
@@ -83,31 +83,31 @@ struct NextPairs {
     // Whether it is eight pairs, or one.
     eight: bool,
     // How many comparisons of those that twice the weight allows are left after them, or more.
-    left: usize,
+    remaining: usize,
 }
 
 // Whether eight pairs come next. It looks if as many comparisons were left as that costs.
 #[inline(always)]
 fn next_pairs<S: MergeState, C: Compare<S::Item>>(
     state: &S,
-    left: usize,
+    remaining: usize,
     cmp: &mut C,
 ) -> NextPairs {
-    if left < EIGHT || state.a_len() < EIGHT || state.b_len() < EIGHT {
+    if remaining < EIGHT || state.a_len() < EIGHT || state.b_len() < EIGHT {
         return NextPairs {
             eight: false,
-            left: left.min(EIGHT - 1) + 1,
+            remaining: remaining.min(EIGHT - 1) + 1,
         };
     }
     if are_eight(state, cmp) {
         return NextPairs {
             eight: true,
-            left: EIGHT,
+            remaining: EIGHT,
         };
     }
     NextPairs {
         eight: false,
-        left: 2,
+        remaining: 2,
     }
 }
 

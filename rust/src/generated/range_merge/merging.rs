@@ -4,11 +4,10 @@
 
 use crate::generated::range_merge::compare::Compare;
 use crate::generated::range_merge::equal_pairs::steps_both;
-use crate::generated::range_merge::galloping::{gallop, Below};
+use crate::generated::range_merge::fast::short_runs::{merge_reading, RunsAlone};
 use crate::generated::range_merge::merge_state::MergeStateMut;
 use crate::generated::range_merge::operations::MergeOperation;
-use crate::generated::range_merge::runs::{order_at, reversed, LeftOf, RightOf};
-use crate::generated::range_merge::short_runs::{RunsAlone, ShortRuns};
+use crate::generated::range_merge::runs::{gallop, reversed, Below, LeftOf, RightOf};
 use crate::support::AllocError;
 use core::cmp::Ordering;
 
@@ -59,29 +58,10 @@ pub(crate) fn merge<S: MergeStateMut, O: MergeOperation, C: Compare<S::Item>>(
     op: &O,
     cmp: &mut C,
 ) -> Result<bool, AllocError> {
-    merge_with(state, op, cmp, &mut RunsAlone)
+    merge_reading(state, op, cmp, &mut RunsAlone)
 }
 
-/// The same merge, which lets `reader` read short runs.
-#[inline(always)]
-pub(crate) fn merge_with<
-    S: MergeStateMut,
-    O: MergeOperation,
-    C: Compare<S::Item>,
-    R: ShortRuns<S, O, C>,
->(
-    state: &mut S,
-    op: &O,
-    cmp: &mut C,
-    reader: &mut R,
-) -> Result<bool, AllocError> {
-    match take_runs(state, op, cmp, reader)? {
-        Went::Stopped => Ok(false),
-        Went::On(_) => take_rest(state, op),
-    }
-}
-
-/// How a part of a merge went.
+/// How a stage of a merge went.
 #[derive(Clone, Copy)]
 pub(crate) enum Went {
     /// The state stopped.
@@ -90,45 +70,10 @@ pub(crate) enum Went {
     On(Option<Ordering>),
 }
 
-// Takes runs or drops them, while both lists have items: whole runs for some rounds, then what the
-// reader reads of short ones, and so by turns.
+/// Takes runs or drops them, for `rounds` rounds, or fewer if a list is used up; for `None`, until
+/// then. Each round leaves one comparison of those that twice the weight allows.
 #[inline(always)]
-fn take_runs<S: MergeStateMut, O: MergeOperation, C: Compare<S::Item>, R: ShortRuns<S, O, C>>(
-    state: &mut S,
-    op: &O,
-    cmp: &mut C,
-    reader: &mut R,
-) -> Result<Went, AllocError> {
-    let mut firsts = order_at(state, 0, cmp);
-    while firsts.is_some() {
-        let next = match take_rounds(state, op, firsts, reader.rounds(), cmp)? {
-            Went::On(next) => next,
-            _ => return Ok(Went::Stopped),
-        };
-        firsts = read_on(state, op, next, cmp, reader);
-    }
-    Ok(Went::On(firsts))
-}
-
-// Lets the reader read short runs, if both lists have items.
-#[inline(always)]
-fn read_on<S: MergeStateMut, O: MergeOperation, C: Compare<S::Item>, R: ShortRuns<S, O, C>>(
-    state: &mut S,
-    op: &O,
-    firsts: Option<Ordering>,
-    cmp: &mut C,
-    reader: &mut R,
-) -> Option<Ordering> {
-    match firsts {
-        Some(next) => Some(reader.read(state, op, next, cmp)),
-        None => None,
-    }
-}
-
-// Takes runs or drops them, for `rounds` rounds, or fewer if a list is used up; for `None`, until
-// then. Each round leaves one comparison of those that twice the weight allows.
-#[inline(always)]
-fn take_rounds<S: MergeStateMut, O: MergeOperation, C: Compare<S::Item>>(
+pub(crate) fn take_rounds<S: MergeStateMut, O: MergeOperation, C: Compare<S::Item>>(
     state: &mut S,
     op: &O,
     firsts: Option<Ordering>,
@@ -136,9 +81,9 @@ fn take_rounds<S: MergeStateMut, O: MergeOperation, C: Compare<S::Item>>(
     cmp: &mut C,
 ) -> Result<Went, AllocError> {
     let mut firsts = firsts;
-    let mut left = rounds;
+    let mut remaining = rounds;
     while firsts.is_some() {
-        if left == Some(0) {
+        if remaining == Some(0) {
             return Ok(Went::On(firsts));
         }
         let next = match step_left(state, op, firsts, cmp)? {
@@ -154,7 +99,7 @@ fn take_rounds<S: MergeStateMut, O: MergeOperation, C: Compare<S::Item>>(
             _ => return Ok(Went::Stopped),
         };
         firsts = next;
-        left = one_less(left);
+        remaining = one_less(remaining);
     }
     Ok(Went::On(firsts))
 }
@@ -212,9 +157,9 @@ pub(crate) fn stand(firsts: Option<Ordering>, how: Ordering) -> bool {
     firsts == Some(how)
 }
 
-// Takes or drops what is left where one list is used up: it is one run, and needs no comparison.
+/// Takes or drops what is left where one list is used up: it is one run, and needs no comparison.
 #[inline(always)]
-fn take_rest<S: MergeStateMut, O: MergeOperation>(
+pub(crate) fn take_rest<S: MergeStateMut, O: MergeOperation>(
     state: &mut S,
     op: &O,
 ) -> Result<bool, AllocError> {

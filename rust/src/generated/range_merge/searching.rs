@@ -2,14 +2,8 @@
 //! Searches in a strictly sorted list, at most as many comparisons long as the list's length has
 //! binary digits.
 
-pub(crate) mod branchless;
-pub(crate) mod by_halves;
-pub(crate) mod selecting;
-
 use crate::generated::range_merge::compare::Compare;
-use crate::generated::range_merge::searching::branchless::count_branchless;
-use crate::generated::range_merge::searching::by_halves::search_by_halves;
-use crate::generated::range_merge::searching::selecting::search_selecting;
+use crate::generated::range_merge::fast::branchless::{count_branchless, search_selecting};
 use crate::support::SELECTS;
 use core::mem::size_of_val;
 
@@ -121,4 +115,27 @@ fn is_read_fast<K>(items: &[K], key: &K) -> bool {
 #[inline(always)]
 pub(crate) fn is_word<K>(item: &K) -> bool {
     size_of_val(item) <= 8
+}
+
+/// The index of the item that is equal to `key`, or in an `Err` the index where such an item would
+/// go.
+pub(crate) fn search_by_halves<K, C: Compare<K>>(
+    items: &[K],
+    key: &K,
+    cmp: &mut C,
+) -> Result<usize, usize> {
+    let mut low = 0;
+    let mut high = items.len();
+    while low < high {
+        let mid = low + (high - low) / 2;
+        let how = cmp.compare(&items[mid], key);
+        if how.is_gt() {
+            high = mid;
+        } else if how.is_lt() {
+            low = mid + 1;
+        } else {
+            return Ok(mid);
+        }
+    }
+    Err(low)
 }

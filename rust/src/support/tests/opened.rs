@@ -1,9 +1,9 @@
 //! Tests of lists that are open for changes.
 
 use super::*;
-use crate::generated::range_merge::in_place_list::{Exchanges, GrowsByGap};
+use crate::generated::range_merge::in_place::list::{Exchanges, GrowsByHole};
+use crate::generated::range_merge::in_place::owned::OwnedRight;
 use crate::generated::range_merge::indexed::Indexed;
-use crate::generated::range_merge::merge_state::in_place::OwnedRight;
 use crate::support::opened::{Emptied, Opened};
 use crate::support::slot::Slot;
 
@@ -19,9 +19,9 @@ fn a_list_that_is_not_closed_is_left_empty() {
     opened.move_down(0, 2, 3);
     assert_eq!(there.get(), 9);
     opened.put_from(3, 2, &mut right);
-    opened.open_gap(5, 3);
+    opened.open_hole(5, 3);
     opened.put_from(5, 1, &mut right);
-    // SAFETY: it was moved up by the gap.
+    // SAFETY: it was moved up by the hole.
     let moved = unsafe { opened.at(8).item().key };
     assert_eq!((moved, there.get()), (5, 9));
     drop(opened);
@@ -38,7 +38,7 @@ fn what_is_not_taken_of_a_list_is_dropped() {
     let mut right = OwnedRight::over(&mut emptied);
     opened.truncate(0);
     assert_eq!(there.get(), 8);
-    opened.open_gap(0, 2);
+    opened.open_hole(0, 2);
     opened.put_from(0, 2, &mut right);
     assert_eq!(there.get(), 8);
     drop(emptied);
@@ -76,8 +76,8 @@ fn a_gap_is_neither_read_nor_closed() {
     assert!(panics(|opened| assert_eq!(reads(&opened, 3), 3)));
     assert!(panics(|opened| assert_eq!(reads(&opened, 6), 6)));
     assert!(panics(|opened| opened.close()));
-    assert!(panics(|mut opened| opened.open_gap(3, 1)));
-    assert!(panics(|mut opened| opened.open_gap(4, 3)));
+    assert!(panics(|mut opened| opened.open_hole(3, 1)));
+    assert!(panics(|mut opened| opened.open_hole(4, 3)));
     assert!(panics(|mut opened| {
         let mut more = SmallVec::<u8, 4>::new(Global);
         more.push_reserved(1);

@@ -1,5 +1,5 @@
 use Rattle.std.proofs.Common.{◌≡◌, ◌+◌, ◌≤◌, true}
-use Rattle.range_merge.specs.Steps.{ArePairs}
+use Rattle.range_merge.specs.OneRun.{ArePairs}
 use Rattle.range_merge.proofs.equal_pairs.are_eight.Given as goal
 
 abbrev pub invariant-loop-i : goal.invariant-loop-i

@@ -5,18 +5,18 @@ use Rattle.range_merge.specs.declared.runs.Run.TheVariants.{Both}
 use Rattle.range_merge.proofs.Ahead.{ahead_of-le}
 use Rattle.range_merge.proofs.Digits.{digits-half}
 use Rattle.range_merge.proofs.FirstRun.{weight-some}
-use Rattle.range_merge.proofs.PartsOfMerge.{first_run-first, first_run-one, Part-on, Part-stopped, Part-refused}
+use Rattle.range_merge.proofs.StagesOfMerge.{first_run-first, first_run-one, Stage-on, Stage-stopped, Stage-refused}
 use Rattle.range_merge.proofs.RunsFound.{runs-both}
 use Rattle.range_merge.proofs.Rounds.{first_run-leaves}
 use Rattle.range_merge.proofs.equal_pairs.step_both.Goals as goal
 
-pub returns-in-Ok-false-clause-part : goal.returns-in-Ok-false-clause-part
-returns-in-Ok-false-clause-part g c =
+pub returns-in-Ok-false-clause-stage : goal.returns-in-Ok-false-clause-stage
+returns-in-Ok-false-clause-stage g c =
     let takes_is = rw (c.ac.ensures, c.bc.ensures) at c.takes_both-take.ensures in
     let went = c.in-Ok-false.ensures in
     let stops = sym c.in-Ok-false.field-0-test ∙ went.goes_on in
     let front = first_run-one g.met.C.Compare.total _ _ c.requires.left_ascending c.requires.right_ascending Both Equal None _ _ refl c.requires.stands (sym stops) in
-    Part-stopped g.met.C.Compare.total Both takes_is front
+    Stage-stopped g.met.C.Compare.total Both takes_is front
     record {
       goes_on = stops;
       lefts = λ more. absurd (false≢true more);
@@ -29,8 +29,8 @@ returns-in-Ok-false-clause-part g c =
       still_infallible = went.still_infallible;
     }
 
-pub returns-in-Ok-true-clause-part : goal.returns-in-Ok-true-clause-part
-returns-in-Ok-true-clause-part g c =
+pub returns-in-Ok-true-clause-stage : goal.returns-in-Ok-true-clause-stage
+returns-in-Ok-true-clause-stage g c =
     let takes_is = rw (c.ac.ensures, c.bc.ensures) at c.takes_both-take.ensures in
     let went = c.in-Ok-true.ensures in
     let lefts = went.unread_left c.in-Ok-true.field-0-test in
@@ -42,7 +42,7 @@ returns-in-Ok-true-clause-part g c =
     first_run-first g.met.C.Compare.total _ _ c.requires.left_ascending c.requires.right_ascending Both c.order_at.result _ 1 _ _ first after
     (omega (arith, c.order_at.ensures.comparisons))
     (omega (arith, c.order_at.ensures.comparisons, ahead_of-le c.order_at.result, digits-half 0 1 (omega arith) (omega arith))) in
-    Part-on g.met.C.Compare.total Both takes_is front c.requires.left_ascending c.requires.right_ascending
+    Stage-on g.met.C.Compare.total Both takes_is front c.requires.left_ascending c.requires.right_ascending
     record {
       goes_on = sym c.in-Ok-true.field-0-test ∙ went.goes_on;
       lefts = λ _. lefts;
@@ -55,11 +55,11 @@ returns-in-Ok-true-clause-part g c =
       still_infallible = went.still_infallible;
     }
 
-pub returns-in-Err-clause-part : goal.returns-in-Err-clause-part
-returns-in-Err-clause-part g c =
+pub returns-in-Err-clause-stage : goal.returns-in-Err-clause-stage
+returns-in-Err-clause-stage g c =
     let went = c.advance_both.ensures in
     let weighs = weight-some g.met.C.Compare.total _ _ c.requires.left_ascending c.requires.right_ascending c.requires.stands.0 in
-    Part-refused g.met.C.Compare.total Both {take = c.takes_both-take.result} c.in-Err.error (omega arith) (omega (arith, weighs))
+    Stage-refused g.met.C.Compare.total Both {take = c.takes_both-take.result} c.in-Err.error (omega arith) (omega (arith, weighs))
     record {
       goes_on = tt;
       lefts = tt;

@@ -5,8 +5,8 @@ use Rattle.range_merge.proofs.EqualPairs.{weight-pairs, Progress-pairs, after-ei
 use Rattle.range_merge.proofs.Pairs.{AllPairs-drop}
 use Rattle.range_merge.proofs.equal_pairs.step_eight.Goals as goal
 
-pub returns-in-Ok-clause-part : goal.returns-in-Ok-clause-part
-returns-in-Ok-clause-part g c =
+pub returns-in-Ok-clause-stage : goal.returns-in-Ok-clause-stage
+returns-in-Ok-clause-stage g c =
     let order = g.C.Compare.order in
     let went = c.in-Ok.ensures in
     let takes_is = rw (c.ac.ensures, c.bc.ensures) at c.takes_both-takes.ensures in
@@ -37,8 +37,8 @@ returns-in-Ok-clause-leaves g c =
     let weighs = weight-pairs g.met.C.Compare.total 8 _ _ c.requires.left_ascending c.requires.right_ascending c.requires.pairs in
     rw (c.in-Ok.ensures.unread_left, c.in-Ok.ensures.unread_right) (omega (arith, weighs, c.order_at.ensures.comparisons, ahead_of-le c.order_at.result))
 
-pub returns-in-Err-clause-part : goal.returns-in-Err-clause-part
-returns-in-Err-clause-part g c =
+pub returns-in-Err-clause-stage : goal.returns-in-Err-clause-stage
+returns-in-Err-clause-stage g c =
     let weighs = weight-pairs g.met.C.Compare.total 8 _ _ c.requires.left_ascending c.requires.right_ascending c.requires.pairs in
     record {
       on = tt;

@@ -1,8 +1,8 @@
 use Rattle.std.proofs.Common.{◌≡◌, ◌+◌, ◌*◌, ◌≤◌, length, Ok, Some}
 use Rattle.std.specs.declared.cmp.Ordering.TheVariants.{Equal}
 use Rattle.range_merge.specs.Runs.{weight}
-use Rattle.range_merge.specs.Parts.{Part}
-use Rattle.range_merge.specs.Steps.{PairsGoOn, ahead_of}
+use Rattle.range_merge.specs.Stages.{Stage}
+use Rattle.range_merge.specs.OneRun.{PairsGoOn, ahead_of}
 use Rattle.range_merge.specs.declared.merging.Went.TheVariants.{On}
 use Rattle.std.specs.declared.alloc.AllocError.{AllocError}
 use Rattle.range_merge.proofs.equal_pairs.steps_both.Given as goal
@@ -14,13 +14,13 @@ invariant-loop-firsts g l =
     let state = g.S.MergeStateMut in
     let count = g.C.Compare.count in
     record {
-      part : Part left right state.left_on state.right_on state.output state.fixed state.is_infallible state.can_stop
+      stage : Stage left right state.left_on state.right_on state.output state.fixed state.is_infallible state.can_stop
           g.C.Compare.order (g.O.MergeOperation.connective l.op) l.fn.state l.state (ahead_of l.fn.firsts) (count l.fn.cmp) (count l.cmp) {E = AllocError} (Ok (On l.firsts));
       no_longer : length (left l.state) + length (right l.state) ≤ length (left l.fn.state) + length (right l.fn.state);
       same : length (left l.state) + length (right l.state) ≡ length (left l.fn.state) + length (right l.fn.state) → l.firsts ≡ l.fn.firsts;
-      leaves : count l.cmp + l.left + 2 * weight g.C.Compare.order (left l.state) (right l.state) ≤ count l.fn.cmp + 2 * weight g.C.Compare.order (left l.fn.state) (right l.fn.state);
-      one : (l.firsts ≡ Some Equal → ⊥) → l.fn.firsts ≡ Some Equal → 1 ≤ l.left;
-      go_on : 1 ≤ l.left → PairsGoOn (g.O.MergeOperation.connective l.op) state.can_stop (state.left_on l.state) (state.right_on l.state);
+      leaves : count l.cmp + l.remaining + 2 * weight g.C.Compare.order (left l.state) (right l.state) ≤ count l.fn.cmp + 2 * weight g.C.Compare.order (left l.fn.state) (right l.fn.state);
+      one : (l.firsts ≡ Some Equal → ⊥) → l.fn.firsts ≡ Some Equal → 1 ≤ l.remaining;
+      go_on : 1 ≤ l.remaining → PairsGoOn (g.O.MergeOperation.connective l.op) state.can_stop (state.left_on l.state) (state.right_on l.state);
       others : (l.fn.firsts ≡ Some Equal → ⊥) → l.firsts ≡ l.fn.firsts;
     }
 

@@ -4,7 +4,7 @@ use Rattle.range_merge.specs.declared.runs.Run.TheVariants.{Right}
 use Rattle.range_merge.proofs.Ahead.{FirstsStand-right}
 use Rattle.range_merge.proofs.Digits.{digits-half}
 use Rattle.range_merge.proofs.MergeLoop.{stops-here}
-use Rattle.range_merge.proofs.PartsOfMerge.{first_run-first, first_run-one}
+use Rattle.range_merge.proofs.StagesOfMerge.{first_run-first, first_run-one}
 use Rattle.range_merge.proofs.RunsRead.{first_run-right}
 use Rattle.range_merge.proofs.merging.right_run.Goals as goal
 

@@ -1,28 +1,28 @@
 use Rattle.std.proofs.Common.{arith}
 use Rattle.range_merge.specs.declared.runs.Run.TheVariants.{Left}
-use Rattle.range_merge.proofs.PartsOfMerge.{Part-none, Part-on, Part-stopped}
+use Rattle.range_merge.proofs.StagesOfMerge.{Stage-none, Stage-on, Stage-stopped}
 use Rattle.std.proofs.Common.{sym, refl, ◌∙◌}
 use Rattle.std.proofs.lemmas.Bool.{false≢true}
 use Rattle.std.specs.declared.cmp.Ordering.TheVariants.{Less}
 use Rattle.range_merge.proofs.Rounds.{Leaves-none, Leaves-one, first_run-leaves}
 use Rattle.range_merge.proofs.merging.step_left.Goals as goal
 
-pub returns-then-not-stand-clause-part : goal.returns-then-not-stand-clause-part
-returns-then-not-stand-clause-part g c =
-    Part-none g.met.C.Compare.total c.args.state.now c.args.firsts _ _ _ c.requires.left_ascending c.requires.right_ascending c.requires.stands (omega arith) (omega arith)
+pub returns-then-not-stand-clause-stage : goal.returns-then-not-stand-clause-stage
+returns-then-not-stand-clause-stage g c =
+    Stage-none g.met.C.Compare.total c.args.state.now c.args.firsts _ _ _ c.requires.left_ascending c.requires.right_ascending c.requires.stands (omega arith) (omega arith)
 
-pub returns-then-not-branch-clause-part : goal.returns-then-not-branch-clause-part
-returns-then-not-branch-clause-part g c =
+pub returns-then-not-branch-clause-stage : goal.returns-then-not-branch-clause-stage
+returns-then-not-branch-clause-stage g c =
     let takes_is = rw c.bc.ensures at c.takes_a-take.ensures in
     let ran = rw (c.in_ok-advance_left.was, c.if-not-branch.true) at c.advance_left.ensures in
-    rw (c.stand.ensures.0 c.if-not-stand.false) (Part-stopped g.met.C.Compare.total (Left c.left_run-run.result.len) takes_is c.left_run-run.ensures ran)
+    rw (c.stand.ensures.0 c.if-not-stand.false) (Stage-stopped g.met.C.Compare.total (Left c.left_run-run.result.len) takes_is c.left_run-run.ensures ran)
 
-pub returns-clause-part : goal.returns-clause-part
-returns-clause-part g c =
+pub returns-clause-stage : goal.returns-clause-stage
+returns-clause-stage g c =
     let takes_is = rw c.bc.ensures at c.takes_a-take.ensures in
     let ran = rw (c.in_ok-advance_left.was, c.if-not-branch.false) at c.advance_left.ensures in
     rw (c.stand.ensures.0 c.if-not-stand.false)
-    (Part-on g.met.C.Compare.total (Left c.left_run-run.result.len) takes_is c.left_run-run.ensures c.requires.left_ascending c.requires.right_ascending ran)
+    (Stage-on g.met.C.Compare.total (Left c.left_run-run.result.len) takes_is c.left_run-run.ensures c.requires.left_ascending c.requires.right_ascending ran)
 
 pub returns-then-not-stand-clause-leaves : goal.returns-then-not-stand-clause-leaves
 returns-then-not-stand-clause-leaves g c =

@@ -1,29 +1,29 @@
 use Rattle.std.proofs.Common.{◌≡◌, ℕ, ◌+◌, ◌*◌, ◌^◌, ◌<◌, ◌≤◌, length, Ok, Some, None}
-use Rattle.range_merge.specs.Parts.{Part}
+use Rattle.range_merge.specs.Stages.{Stage}
 use Rattle.range_merge.specs.Runs.{weight}
-use Rattle.range_merge.specs.Steps.{ahead_of}
+use Rattle.range_merge.specs.OneRun.{ahead_of}
 use Rattle.range_merge.specs.declared.merging.Went.TheVariants.{On}
 use Rattle.std.specs.declared.alloc.AllocError.{AllocError}
 use Rattle.range_merge.proofs.merging.take_rounds.Given as goal
 
-abbrev pub invariant-loop-left : goal.invariant-loop-left
-invariant-loop-left g l =
+abbrev pub invariant-loop-remaining : goal.invariant-loop-remaining
+invariant-loop-remaining g l =
     let left = g.S.MergeState.left in
     let right = g.S.MergeState.right in
     let state = g.S.MergeStateMut in
     let count = g.C.Compare.count in
     record {
-      part : Part left right state.left_on state.right_on state.output state.fixed state.is_infallible state.can_stop
+      stage : Stage left right state.left_on state.right_on state.output state.fixed state.is_infallible state.can_stop
           g.C.Compare.order (g.O.MergeOperation.connective l.op) l.fn.state l.state (ahead_of l.fn.firsts) (count l.fn.cmp) (count l.cmp) {E = AllocError} (Ok (On l.firsts));
       fits : length (left l.fn.state) + length (right l.fn.state) < 2 ^ 65;
       no_longer : length (left l.state) + length (right l.state) ≤ length (left l.fn.state) + length (right l.fn.state);
       same : length (left l.state) + length (right l.state) ≡ length (left l.fn.state) + length (right l.fn.state)
-          → (l.firsts ≡ l.fn.firsts) × (l.left ≡ l.fn.rounds);
-      leaves : (n : ℕ) → l.fn.rounds ≡ Some n → (m : ℕ) × (l.left ≡ Some m)
+          → (l.firsts ≡ l.fn.firsts) × (l.remaining ≡ l.fn.rounds);
+      leaves : (n : ℕ) → l.fn.rounds ≡ Some n → (m : ℕ) × (l.remaining ≡ Some m)
           × (count l.cmp + n + 2 * weight g.C.Compare.order (left l.state) (right l.state)
           ≤ count l.fn.cmp + m + 2 * weight g.C.Compare.order (left l.fn.state) (right l.fn.state));
-      uncounted : l.fn.rounds ≡ None → l.left ≡ None;
+      uncounted : l.fn.rounds ≡ None → l.remaining ≡ None;
     }
 
-abbrev pub decreases-loop-left : goal.decreases-loop-left
-decreases-loop-left g l = length (g.S.MergeState.left l.state) + length (g.S.MergeState.right l.state)
+abbrev pub decreases-loop-remaining : goal.decreases-loop-remaining
+decreases-loop-remaining g l = length (g.S.MergeState.left l.state) + length (g.S.MergeState.right l.state)

@@ -27,8 +27,8 @@ impl<T: EntryClone, const N: usize> RangeSet<T, N> {
     /// ```text
     /// requires off: O.connective op.now false false ≡ false
     /// requires made: count.old < 2 ^ 64
-    /// ensures headline: IsCounted T.cmp self.old that.entry.boundaries.now count.old count.new
-    ///     (BecomesTheResult T.cmp T.is_copy (O.connective op.now) self.old
+    /// ensures headline: CostsTwiceWeight T.cmp self.old that.entry.boundaries.now count.old
+    ///     count.new (BecomesTheResult T.cmp T.is_copy (O.connective op.now) self.old
     ///     that.entry.boundaries.now self.new result)
     /// ensures changed: IsChangedByView T.cmp T.is_copy T.is_infallible (O.connective op.now) N
     ///     self.old that.entry.boundaries.now self.new result
@@ -131,8 +131,8 @@ impl<T: Ord, const N: usize> RangeSet<T, N> {
     /// ```text
     /// requires off: O.connective op.now false false ≡ false
     /// requires made: count.old < 2 ^ 64
-    /// ensures headline: IsCounted T.cmp self.old that count.old count.new (BecomesTheOwnResult
-    ///     T.cmp (O.connective op.now) self.old that self.new result)
+    /// ensures headline: CostsTwiceWeight T.cmp self.old that count.old count.new
+    ///     (BecomesTheOwnResult T.cmp (O.connective op.now) self.old that self.new result)
     /// ensures changed: IsChangedByOwned T.cmp (O.connective op.now) N self.old that self.new
     ///     result
     /// ensures comparisons: AddsAtMost count.old count.new (2 * weight T.cmp self.old that)

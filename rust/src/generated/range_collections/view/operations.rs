@@ -133,7 +133,7 @@ impl<'a, T: RangeSetEntry + EntryClone> RangeSetRef<'a, T> {
     ///
     /// ```text
     /// requires made: count.old < 2 ^ 64
-    /// ensures headline: IsCounted T.cmp self.now.boundaries.now that.entry.boundaries.now
+    /// ensures headline: CostsTwiceWeight T.cmp self.now.boundaries.now that.entry.boundaries.now
     ///     count.old count.new (IfOk result (IsTheResult T.cmp T.is_value (O.connective op.now)
     ///     self.now.boundaries.now that.entry.boundaries.now T.is_copy T.is_copy))
     /// ensures means: IfOk result (λ set. MeansAmong T.cmp T.is_value (O.connective op.now) set

@@ -2,8 +2,7 @@
 //! A merge that only returns whether anything is taken.
 
 use crate::generated::range_merge::compare::Compare;
-use crate::generated::range_merge::merge_state::output::Output;
-use crate::generated::range_merge::merge_state::over_slices::SliceMergeState;
+use crate::generated::range_merge::merge_state::over_slices::{Output, SliceMergeState};
 use crate::generated::range_merge::merging;
 use crate::generated::range_merge::operations::MergeOperation;
 use crate::support::AllocError;

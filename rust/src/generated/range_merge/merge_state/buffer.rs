@@ -4,13 +4,12 @@
 //! The count goes on when the slice is full, so that it says how long a slice must be. While it is
 //! within the slice, the slice begins with what was taken, and after that it is as it was.
 
-use crate::generated::range_merge::compare::{Compare, Copier, Done};
-use crate::generated::range_merge::merge_state::output::Output;
-use crate::generated::range_merge::merge_state::over_slices::SliceMergeState;
-use crate::generated::range_merge::merge_state::reading::{Room, Singly};
+use crate::generated::range_merge::compare::{Compare, Copier};
+use crate::generated::range_merge::fast::short_runs::into_output::Singly;
+use crate::generated::range_merge::fast::short_runs::merge_reading;
+use crate::generated::range_merge::merge_state::over_slices::{Output, SliceMergeState};
 use crate::generated::range_merge::merging;
 use crate::generated::range_merge::operations::MergeOperation;
-use crate::generated::range_merge::singly::{read_singly, ReadSoFar};
 use crate::support::AllocError;
 use core::mem::size_of_val;
 
@@ -118,7 +117,7 @@ impl<'a, 'o, K: Copy> BufferMergeState<'a, 'o, K> {
         };
         // Nothing is lost: the buffer counts also what it has no room for.
         if let Some(mut reader) = Singly::of(&copier) {
-            let _ = merging::merge_with(&mut state, op, cmp, &mut reader);
+            let _ = merge_reading(&mut state, op, cmp, &mut reader);
             return state.result();
         }
         let _ = merging::merge(&mut state, op, cmp);
@@ -139,8 +138,8 @@ impl<'o, K: Copy> Output<K, ()> for Buffer<'o, K> {
     }
 }
 
-// Copies items that are `Copy`, which are plain data.
-struct ByCopy {
+/// Copies items that are `Copy`, which are plain data.
+pub(crate) struct ByCopy {
     // Whether they are short, so that to hold copies of them is worth it.
     are_short: bool,
 }
@@ -164,41 +163,6 @@ fn are_short<K>(items: &[K]) -> bool {
         Some(item) => size_of_val(item) <= 8,
         None => false,
     }
-}
-
-impl<'o, K: Copy, O: MergeOperation, C: Compare<K>> Room<K, (), ByCopy, O, C> for Buffer<'o, K> {
-    #[inline(always)]
-    fn read(
-        &mut self,
-        a: &[K],
-        b: &[K],
-        from: ReadSoFar,
-        op: &O,
-        copier: &ByCopy,
-        cmp: C,
-        _n: usize,
-    ) -> Done<C, ReadSoFar> {
-        let at = self.given.min(self.items.len());
-        let read = read_behind(a, b, from, op, copier, cmp, &mut self.items[at..]);
-        self.given += read.answer.k;
-        read
-    }
-}
-
-// Reads short runs to the front of the slice, which stays as it was behind them.
-#[inline(never)]
-fn read_behind<K: Copy, O: MergeOperation, C: Compare<K>>(
-    a: &[K],
-    b: &[K],
-    from: ReadSoFar,
-    op: &O,
-    copier: &ByCopy,
-    cmp: C,
-    out: &mut [K],
-) -> Done<C, ReadSoFar> {
-    let mut cmp = cmp;
-    let answer = read_singly(a, b, from, op, copier, &mut cmp, out, true);
-    Done { cmp, answer }
 }
 
 /// Changes nothing. Using the slice ties it to the borrowed one, whose last items are then known.

@@ -2,9 +2,9 @@
 //! A merge that only counts what is taken.
 
 use crate::generated::range_merge::compare::Compare;
-use crate::generated::range_merge::merge_state::counting::ByPlace;
-use crate::generated::range_merge::merge_state::output::Output;
-use crate::generated::range_merge::merge_state::over_slices::SliceMergeState;
+use crate::generated::range_merge::fast::short_runs::counted::ByPlace;
+use crate::generated::range_merge::fast::short_runs::merge_reading;
+use crate::generated::range_merge::merge_state::over_slices::{Output, SliceMergeState};
 use crate::generated::range_merge::merging;
 use crate::generated::range_merge::operations::MergeOperation;
 use crate::support::AllocError;
@@ -57,7 +57,7 @@ impl<'a, K> CountMergeState<'a, K> {
         let mut state = Self::new(a, b);
         let mut reader = ByPlace::of(&state);
         // Nothing is lost: a count never stops a merge, and never fails.
-        let _ = merging::merge_with(&mut state, op, cmp, &mut reader);
+        let _ = merge_reading(&mut state, op, cmp, &mut reader);
         state.result()
     }
 }

@@ -2,10 +2,11 @@
 //! A merge that copies what is taken into a list.
 
 use crate::generated::range_merge::compare::{Compare, Copier};
-use crate::generated::range_merge::merge_state::grows_at_end::append_copies;
-use crate::generated::range_merge::merge_state::output::Output;
-use crate::generated::range_merge::merge_state::over_slices::SliceMergeState;
-use crate::generated::range_merge::merge_state::reading::Singly;
+use crate::generated::range_merge::fast::short_runs::into_output::Singly;
+use crate::generated::range_merge::fast::short_runs::merge_reading;
+use crate::generated::range_merge::merge_state::over_slices::{
+    Output, SliceMergeState, COPIED_AT_ONCE,
+};
 use crate::generated::range_merge::merging;
 use crate::generated::range_merge::operations::MergeOperation;
 use crate::support::{AllocError, SmallVec, Vec};
@@ -80,14 +81,14 @@ impl<'a, K, P: Copier<K>, const M: usize> SmallVecMergeState<'a, K, P, M> {
         let mut list = r.into_vec()?;
         // Where there is no room for both at once, the list grows run by run.
         let _asked = list.reserve(a.len().saturating_add(b.len()));
-        Ok(inline_if_few(Self::merge_into(
+        Ok(inline_if_few(Self::merge_to_vec(
             list, a, b, copier, op, cmp,
         )?))
     }
 
     /// Appends to the empty list. It asks for no memory where there is room for both lengths (seen
     /// by reading).
-    pub(crate) fn merge_into<O: MergeOperation, C: Compare<K>>(
+    pub(crate) fn merge_to_vec<O: MergeOperation, C: Compare<K>>(
         list: Vec<K>,
         a: &'a [K],
         b: &'a [K],
@@ -97,7 +98,7 @@ impl<'a, K, P: Copier<K>, const M: usize> SmallVecMergeState<'a, K, P, M> {
     ) -> Result<Vec<K>, AllocError> {
         let mut state = SliceMergeState::over(a, b, list, Copying { copier });
         let _went_through = match Singly::of(copier) {
-            Some(mut reader) => merging::merge_with(&mut state, op, cmp, &mut reader)?,
+            Some(mut reader) => merge_reading(&mut state, op, cmp, &mut reader)?,
             None => merging::merge(&mut state, op, cmp)?,
         };
         Ok(state.result())
@@ -131,6 +132,90 @@ impl<'a, K, P: Copier<K>, const M: usize> Output<K, Copying<'a, P>> for SmallVec
     #[inline(always)]
     fn append(&mut self, items: &[K], take: bool, by: &Copying<'a, P>) -> Result<bool, AllocError> {
         append_copies(self, items, take, by.copier)?;
+        Ok(true)
+    }
+}
+
+/// A list that grows at its end.
+pub trait GrowsAtEnd<K> {
+    /// Makes room for `n` more items.
+    ///
+    /// # Contract
+    ///
+    /// ```text
+    /// ensures items: items self.new ≡ items self.old
+    /// ensures ok: OnOk result (length (items self.new) + n ≤ room self.new)
+    /// ensures succeeds: length (items self.old) + n ≤ room self.old → IsOk result
+    /// ensures had_room: length (items self.old) + n ≤ room self.old → room self.new ≡ room
+    ///     self.old
+    /// ```
+    fn reserve(&mut self, n: usize) -> Result<(), AllocError>;
+
+    /// Appends an item where there is room.
+    ///
+    /// # Contract
+    ///
+    /// ```text
+    /// requires length (items self.old) < room self.old
+    /// ensures items: items self.new ≡ items self.old ++ item ∷ []
+    /// ensures room: room self.new ≡ room self.old
+    /// ```
+    fn push(&mut self, item: K);
+}
+
+impl<K, const M: usize> GrowsAtEnd<K> for SmallVec<K, M> {
+    #[inline(always)]
+    fn reserve(&mut self, n: usize) -> Result<(), AllocError> {
+        SmallVec::reserve(self, n)
+    }
+
+    #[inline(always)]
+    fn push(&mut self, item: K) {
+        self.push_reserved(item);
+    }
+}
+
+impl<K> GrowsAtEnd<K> for Vec<K> {
+    #[inline(always)]
+    fn reserve(&mut self, n: usize) -> Result<(), AllocError> {
+        if n <= self.capacity() - self.len() {
+            return Ok(());
+        }
+        Vec::reserve(self, n)
+    }
+
+    #[inline(always)]
+    fn push(&mut self, item: K) {
+        self.push_reserved(item);
+    }
+}
+
+// Appends copies of the items, if they are taken. It asks for room once.
+#[inline(always)]
+pub(crate) fn append_copies<K, P: Copier<K>, L: GrowsAtEnd<K>>(
+    list: &mut L,
+    items: &[K],
+    take: bool,
+    copier: &P,
+) -> Result<(), AllocError> {
+    if !take {
+        return Ok(());
+    }
+    list.reserve(items.len())?;
+    for item in items {
+        list.push(copier.copy(item)?);
+    }
+    Ok(())
+}
+
+impl<'a, K, P: Copier<K>> Output<K, Copying<'a, P>> for Vec<K> {
+    #[inline(always)]
+    fn append(&mut self, items: &[K], take: bool, by: &Copying<'a, P>) -> Result<bool, AllocError> {
+        if items.len() < COPIED_AT_ONCE {
+            append_copies(self, items, take, by.copier)?;
+        } else if take {
+            by.copier.append(self, items)?;
+        }
         Ok(true)
     }
 }

@@ -1,0 +1,18 @@
+use Rattle.range_merge.proofs.MergeLoop.{Progress-none}
+use Rattle.range_merge.proofs.fast.short_runs.counted.ByPlaceShortRunsSliceMergeStateUsize.read.Goals as goal
+
+pub returns-then-are_few-clause-goes_on : goal.returns-then-are_few-clause-goes_on
+returns-then-are_few-clause-goes_on g c = record {
+  progress = Progress-none;
+  left_ascends = c.requires.left_ascending;
+  right_ascends = c.requires.right_ascending;
+  stands = c.requires.stands;
+}
+
+pub returns-then-were_long-clause-goes_on : goal.returns-then-were_long-clause-goes_on
+returns-then-were_long-clause-goes_on g c = record {
+  progress = Progress-none;
+  left_ascends = c.requires.left_ascending;
+  right_ascends = c.requires.right_ascending;
+  stands = c.requires.stands;
+}

@@ -1,0 +1,36 @@
+use Rattle.std.proofs.Common.{◌≡◌, drop}
+use Rattle.range_merge.specs.Singly.{odd_from}
+use Rattle.range_merge.proofs.EvenSteps.{first-unread, odd-from, rest-read}
+use Rattle.range_merge.proofs.fast.short_runs.into_output.read_short_runs.Goals as goal
+
+pub returns-clause-progress : goal.returns-clause-progress
+returns-clause-progress g c = λ first.
+    let it = c.state.inside in
+    let at = c.apart-at.result in
+    let from = c.unread-from in
+    let read = c.apart-at.ensures.2.1 in
+    let lefts = rw (← c.state.view_is) at c.requires.lefts in
+    let rights = rw (← c.state.view_is) at c.requires.rights in
+    rw (c.drop_front.ensures, c.drop_front-2.ensures, ← c.state.view_is)
+    (rw (
+      rest-read c.args.a.now _ from.result.i at.i it.ac from.ensures.lefts lefts read.lefts,
+      rest-read c.args.b.now _ from.result.j at.j it.bc from.ensures.rights rights read.rights,
+      first-unread c.args.a.now _ from.result.i it.ac from.ensures.lefts lefts,
+      first-unread c.args.b.now _ from.result.j it.bc from.ensures.rights rights,
+      odd-from from.result.i it.ac from.ensures.lefts,
+      odd-from from.result.j it.bc from.ensures.rights,
+    ) at (read.progress first))
+
+pub returns-clause-stands : goal.returns-clause-stands
+returns-clause-stands g c =
+    let it = c.state.inside in
+    let at = c.apart-at.result in
+    let from = c.unread-from in
+    let read = c.apart-at.ensures.2.1 in
+    let lefts = rw (← c.state.view_is) at c.requires.lefts in
+    let rights = rw (← c.state.view_is) at c.requires.rights in
+    rw (c.drop_front.ensures, c.drop_front-2.ensures)
+    (rw (
+      rest-read c.args.a.now _ from.result.i at.i it.ac from.ensures.lefts lefts read.lefts,
+      rest-read c.args.b.now _ from.result.j at.j it.bc from.ensures.rights rights read.rights,
+    ) at read.stands)

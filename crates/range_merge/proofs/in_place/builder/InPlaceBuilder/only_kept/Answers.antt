@@ -1,0 +1,7 @@
+use Rattle.range_merge.proofs.in_place.builder.InPlaceBuilder.only_kept.Goals as goal
+
+pub returns-clause-items : goal.returns-clause-items
+returns-clause-items g c = rw (← c.self.view_is) c.truncate.ensures.items
+
+pub returns-clause-room : goal.returns-clause-room
+returns-clause-room g c = rw (← c.self.view_is) c.truncate.ensures.room

@@ -1,5 +1,0 @@
-use Rattle.std.proofs.Common.{refl}
-use Rattle.range_merge.proofs.in_place_builder.InPlaceBuilder.puts_left.Goals as goal
-
-pub returns : goal.returns
-returns g c = rw (← c.self.view_is) refl

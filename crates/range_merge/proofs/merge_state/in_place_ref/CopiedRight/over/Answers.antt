@@ -1,7 +1,0 @@
-use Rattle.range_merge.proofs.merge_state.in_place_ref.CopiedRight.over.Goals as goal
-
-pub invariant_of-result : goal.invariant_of-result
-invariant_of-result g c = rw (c.new.ensures, c.over.ensures) c.requires
-
-pub returns : goal.returns
-returns g c = c.new.ensures

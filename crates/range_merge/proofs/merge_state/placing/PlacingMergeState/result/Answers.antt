@@ -1,7 +1,0 @@
-use Rattle.range_merge.proofs.merge_state.placing.PlacingMergeState.result.Goals as goal
-
-pub returns-clause-items : goal.returns-clause-items
-returns-clause-items g c = rw (← c.self.view_is) c.only_kept.ensures.items
-
-pub returns-clause-room : goal.returns-clause-room
-returns-clause-room g c = rw (← c.self.view_is) c.only_kept.ensures.room
