@@ -177,6 +177,14 @@ module _ {K S E : Type 0} {left right : S → List K} {left_on right_on : S → 
     still_infallible = λ holds. tt;
   }
 
+  -- a part of it, after the first items were compared
+  pub Stage-compared : {old new : S} (firsts : Option Ordering) {count0 count1 count2 : ℕ} (result : Result Went E) → IsAscending order (left old) → IsAscending order (right old)
+      → FirstsStand order (left old) (right old) firsts → count1 ≡ count0 + ahead_of firsts
+      → Stage left right left_on right_on output fixed is_infallible can_stop order f old new (ahead_of firsts) count1 count2 {E = E} result
+      → Stage left right left_on right_on output fixed is_infallible can_stop order f old new 0 count0 count2 {E = E} result
+  Stage-compared {old} firsts {count0} {count1} result l_ascends r_ascends stands compared =
+      Stage-then result (Stage-none old firsts 0 count0 count1 l_ascends r_ascends stands (omega (arith, compared)) (omega (arith, compared)))
+
   -- where one list is used up, what is left is one run, or nothing
   module _ {mid new : S} {count : ℕ} (more : Bool) (l_ascends : IsAscending order (left mid)) (r_ascends : IsAscending order (right mid)) (one : FirstsStand order (left mid) (right mid) None)
       (lefts : 1 ≤ length (left mid) → Ran left right left_on right_on output fixed is_infallible can_stop (Left (length (left mid))) (takes f (left_on mid) (right_on mid) (Left (length (left mid)))) mid new {E = E} (Ok more))

@@ -1,5 +1,5 @@
 //! The merge: it takes the first run of the unread lists whole or drops it whole, until both lists
-//! are used up. A reader may read short runs in between.
+//! are used up.
 ghost use Rattle.std.specs.Prelude.{◌≡◌, ◌+◌, ◌*◌, ◌^◌, ◌<◌, ◌≤◌, true, false, not, ◌&&◌, List, [], ◌++◌, length, IsOk, OnOk, IfOk, IfSome, Ok, None, Some, IsTrue, ◌↔◌, ℕ};
 ghost use Rattle.std.specs.declared.cmp.Ordering.TheVariants.{Less, Greater};
 ghost use Rattle.range_merge.specs.Boundaries.{IsAscending};
@@ -13,10 +13,9 @@ ghost use Rattle.range_merge.specs.declared.runs.Run.TheVariants.{Left, Right};
 
 use crate::compare::Compare;
 use crate::equal_pairs::steps_both;
-use crate::fast::short_runs::{RunsAlone, merge_reading};
 use crate::merge_state::MergeStateMut;
 use crate::operations::MergeOperation;
-use crate::runs::{Below, LeftOf, RightOf, gallop, reversed};
+use crate::runs::{Below, LeftOf, RightOf, gallop, order_at, reversed};
 use std::alloc::AllocError;
 use std::cmp::Ordering;
 
@@ -64,7 +63,13 @@ pub fn merge<S: MergeStateMut, O: MergeOperation, C: Compare<S::Item>>(
     ensures comparisons { AddsAtMost (C.count cmp.old) (C.count cmp.new)
         (2 * weight C.order (S.left state.old) (S.right state.old)) }
 {
-    merge_reading(state, op, cmp, &mut RunsAlone)
+    // Both are called for their clause that a length is within usize, which the proof cites.
+    let _lengths = (state.a_len(), state.b_len());
+    let firsts = order_at(state, 0, cmp);
+    match take_rounds(state, op, firsts, None, cmp)? {
+        Went::Stopped => Ok(false),
+        Went::On(_) => take_rest(state, op),
+    }
 }
 
 /// How a stage of a merge went.

@@ -51,22 +51,6 @@ pub(crate) trait ShortRuns<S: MergeStateMut, O: MergeOperation, C: Compare<S::It
         ensures made { C.count cmp.old ≤ C.count cmp.new };
 }
 
-/// Reads none: each run is taken whole.
-#[derive(Drop)]
-pub(crate) struct RunsAlone;
-
-impl<S: MergeStateMut, O: MergeOperation, C: Compare<S::Item>> ShortRuns<S, O, C> for RunsAlone {
-    #[inline(always)]
-    fn rounds(&self) -> Option<u32> {
-        None
-    }
-
-    #[inline(always)]
-    fn read(&mut self, _state: &mut S, _op: &O, next: Ordering, _cmp: &mut C) -> Ordering {
-        next
-    }
-}
-
 /// How many items stand before a place of each list, how many were put out, and how the next two
 /// items stand to one another.
 #[derive(Clone, Copy)]
@@ -147,7 +131,7 @@ impl ReadSoFar {
     }
 }
 
-/// The same merge, which lets `reader` read short runs.
+/// The same merge as `merging::merge`, which lets `reader` read short runs.
 #[inline(always)]
 pub(crate) fn merge_reading<
     S: MergeStateMut,
