@@ -5,7 +5,7 @@ use Rattle.std.specs.declared.cmp.Ordering.TheVariants.{Less, Equal, Greater}
 use Rattle.std.specs.Cmp.{IsTotalOrder}
 use Rattle.range_merge.specs.Changes.{Taken}
 use Rattle.range_merge.specs.Connective.{Table}
-use Rattle.range_merge.specs.Stages.{IsFirstRun, IsTurn, Leaves, GoesOn, Stage}
+use Rattle.range_merge.specs.Stages.{GoesOn, IsFirstRun, IsTurn, Leaves, Members, Stage}
 use Rattle.range_merge.specs.declared.merging.Went.TheVariants.{On}
 use Rattle.range_merge.proofs.MergeLoop.{Progress-then}
 use Rattle.range_merge.proofs.StagesOfMerge.{ahead_of-weight}
@@ -74,33 +74,33 @@ counted-rounds None next how six whole is =
 counted-rounds (Some n) next how six whole is = (n, refl, six)
 
 -- comparisons were made beyond those of a part, of which a number were left
-module _ {K S E : Type 0} {left right : S → List K} {left_on right_on : S → Bool} {output : S → List (Taken K) → Type 0} {fixed : S → ℕ} {is_infallible : S → Type 0} {can_stop : Bool}
+module _ {K S E : Type 0} {m : Members K S}
     {order : K → K → Ordering} {f : Table} (o : IsTotalOrder order) {old new : S} {known count0 count1 count2 : ℕ} {next : Option Ordering} where
-  pub Stage-more : Stage left right left_on right_on output fixed is_infallible can_stop order f old new known count0 count1 {E = E} (Ok (On next))
-      → count1 ≤ count2 → count2 + known + 2 * weight order (left new) (right new) ≤ count0 + 2 * weight order (left old) (right old) + ahead_of next
-      → Stage left right left_on right_on output fixed is_infallible can_stop order f old new known count0 count2 {E = E} (Ok (On next))
+  pub Stage-more : Stage m order f old new known count0 count1 {E = E} (Ok (On next))
+      → count1 ≤ count2 → count2 + known + 2 * weight order (m.left new) (m.right new) ≤ count0 + 2 * weight order (m.left old) (m.right old) + ahead_of next
+      → Stage m order f old new known count0 count2 {E = E} (Ok (On next))
   Stage-more a more cost = record {
     on = a.on;
     stops = tt;
     counted = cost;
     at_least = omega (arith, a.at_least, more);
-    at_most = omega (arith, cost, ahead_of-weight o (left new) (right new) a.on.left_ascends a.on.right_ascends next a.on.stands);
+    at_most = omega (arith, cost, ahead_of-weight o (m.left new) (m.right new) a.on.left_ascends a.on.right_ascends next a.on.stands);
     stays = a.stays;
     succeeds = λ _. refl;
     still_infallible = a.still_infallible;
   }
 
 -- what a read costs beyond the weight of what it read, where six comparisons were left before it
-module _ {K S E : Type 0} {left right : S → List K} {left_on right_on : S → Bool} {output : S → List (Taken K) → Type 0} {fixed : S → ℕ} {is_infallible : S → Type 0} {can_stop : Bool}
+module _ {K S E : Type 0} {m : Members K S}
     {order : K → K → Ordering} {f : Table} (o : IsTotalOrder order) {old mid new : S} {known count0 count1 count2 : ℕ} where
-  pub Stage-read : {how next : Ordering} → Stage left right left_on right_on output fixed is_infallible can_stop order f old mid known count0 count1 {E = E} (Ok (On (Some how)))
-      → count1 + 6 + known + 2 * weight order (left mid) (right mid) ≤ count0 + 2 * weight order (left old) (right old) + 1
-      → GoesOn left right left_on right_on output fixed is_infallible can_stop order f mid new (Some next)
-      → count1 ≤ count2 → count2 + 2 * weight order (left new) (right new) ≤ count1 + 2 * weight order (left mid) (right mid) + 6
-      → fixed new ≡ fixed mid → (is_infallible mid → is_infallible new)
-      → Stage left right left_on right_on output fixed is_infallible can_stop order f old new known count0 count2 {E = E} (Ok (On (Some next)))
+  pub Stage-read : {how next : Ordering} → Stage m order f old mid known count0 count1 {E = E} (Ok (On (Some how)))
+      → count1 + 6 + known + 2 * weight order (m.left mid) (m.right mid) ≤ count0 + 2 * weight order (m.left old) (m.right old) + 1
+      → GoesOn m order f mid new (Some next)
+      → count1 ≤ count2 → count2 + 2 * weight order (m.left new) (m.right new) ≤ count1 + 2 * weight order (m.left mid) (m.right mid) + 6
+      → m.fixed new ≡ m.fixed mid → (m.is_infallible mid → m.is_infallible new)
+      → Stage m order f old new known count0 count2 {E = E} (Ok (On (Some next)))
   Stage-read {next = next} a six b at_least cost stays still =
-      let some = ahead_of-weight o (left new) (right new) b.left_ascends b.right_ascends (Some next) b.stands in
+      let some = ahead_of-weight o (m.left new) (m.right new) b.left_ascends b.right_ascends (Some next) b.stands in
       record {
         on = record {
           progress = Progress-then a.on.progress b.progress;
@@ -118,13 +118,13 @@ module _ {K S E : Type 0} {left right : S → List K} {left_on right_on : S → 
       }
 
   -- the same where a list may be used up, and then nothing is read
-  pub Stage-read_on : (firsts after : Option Ordering) → Stage left right left_on right_on output fixed is_infallible can_stop order f old mid known count0 count1 {E = E} (Ok (On firsts))
-      → ((first : Ordering) → firsts ≡ Some first → count1 + 6 + known + 2 * weight order (left mid) (right mid) ≤ count0 + 2 * weight order (left old) (right old) + 1)
+  pub Stage-read_on : (firsts after : Option Ordering) → Stage m order f old mid known count0 count1 {E = E} (Ok (On firsts))
+      → ((first : Ordering) → firsts ≡ Some first → count1 + 6 + known + 2 * weight order (m.left mid) (m.right mid) ≤ count0 + 2 * weight order (m.left old) (m.right old) + 1)
       → (firsts ≡ None → (after ≡ None) × (count2 ≡ count1) × (new ≡ mid)) → ((first : Ordering) → firsts ≡ Some first → (next : Ordering) × (after ≡ Some next))
-      → GoesOn left right left_on right_on output fixed is_infallible can_stop order f mid new after
-      → count1 ≤ count2 → count2 + 2 * weight order (left new) (right new) ≤ count1 + 2 * weight order (left mid) (right mid) + 6
-      → fixed new ≡ fixed mid → (is_infallible mid → is_infallible new)
-      → Stage left right left_on right_on output fixed is_infallible can_stop order f old new known count0 count2 {E = E} (Ok (On after))
+      → GoesOn m order f mid new after
+      → count1 ≤ count2 → count2 + 2 * weight order (m.left new) (m.right new) ≤ count1 + 2 * weight order (m.left mid) (m.right mid) + 6
+      → m.fixed new ≡ m.fixed mid → (m.is_infallible mid → m.is_infallible new)
+      → Stage m order f old new known count0 count2 {E = E} (Ok (On after))
   Stage-read_on None after a six ended some b at_least cost stays still =
       let nothing = ended refl in
       rw (nothing.0, nothing.1, nothing.2) a

@@ -7,7 +7,7 @@ use Rattle.std.specs.declared.cmp.Ordering.{Ordering}
 use Rattle.range_merge.specs.Boundaries.{IsAscending}
 use Rattle.range_merge.specs.Changes.{Taken}
 use Rattle.range_merge.specs.Connective.{Table}
-use Rattle.range_merge.specs.Stages.{IsFirstRun, Ran, Stage}
+use Rattle.range_merge.specs.Stages.{IsFirstRun, Members, Ran, Stage}
 use Rattle.range_merge.specs.Runs.{runs, run_len, digits, weight}
 use Rattle.range_merge.specs.OneRun.{FirstsStand, StandsFirst, ahead_of, left_after, right_after, takes, one_of_run}
 use Rattle.range_merge.specs.declared.merging.Went.{Went}
@@ -59,31 +59,31 @@ module _ {K : Type 0} {order : K → K → Ordering} (o : IsTotalOrder order) (l
   first_run-right_all goes_on count some none =
       first_run-first (Right (length r)) None goes_on 0 count count (runs-right_all o l r l_ascends r_ascends (omega arith) none) (λ any. absurd (omega arith)) (omega arith) (omega arith)
 
-module _ {K S E : Type 0} {left right : S → List K} {left_on right_on : S → Bool} {output : S → List (Taken K) → Type 0} {fixed : S → ℕ} {is_infallible : S → Type 0} {can_stop : Bool}
+module _ {K S E : Type 0} {m : Members K S}
     {order : K → K → Ordering} {f : Table} (o : IsTotalOrder order) where
   -- nothing was done but to see how the first items stand
-  pub Stage-none : (s : S) (firsts : Option Ordering) (known count0 count : ℕ) → IsAscending order (left s) → IsAscending order (right s) → FirstsStand order (left s) (right s) firsts
+  pub Stage-none : (s : S) (firsts : Option Ordering) (known count0 count : ℕ) → IsAscending order (m.left s) → IsAscending order (m.right s) → FirstsStand order (m.left s) (m.right s) firsts
       → count0 ≤ count → count + known ≤ count0 + ahead_of firsts
-      → Stage left right left_on right_on output fixed is_infallible can_stop order f s s known count0 count {E = E} (Ok (On firsts))
+      → Stage m order f s s known count0 count {E = E} (Ok (On firsts))
   Stage-none s firsts known count0 count l_ascends r_ascends stands at_least at_most = record {
     on = record { progress = Progress-none; left_ascends = l_ascends; right_ascends = r_ascends; stands = stands };
     stops = tt;
     counted = omega arith;
     at_least = at_least;
-    at_most = omega (arith, ahead_of-weight o (left s) (right s) l_ascends r_ascends firsts stands);
+    at_most = omega (arith, ahead_of-weight o (m.left s) (m.right s) l_ascends r_ascends firsts stands);
     stays = refl;
     succeeds = λ _. refl;
     still_infallible = λ holds. holds;
   }
 
-  module _ (run : Run) {take : Bool} {old new : S} {next : Option Ordering} {known count0 count : ℕ} (takes_is : take ≡ takes f (left_on old) (right_on old) run)
-      (front : IsFirstRun order run (left old) (right old) next (not (can_stop && take)) known count0 count) where
+  module _ (run : Run) {take : Bool} {old new : S} {next : Option Ordering} {known count0 count : ℕ} (takes_is : take ≡ takes f (m.left_on old) (m.right_on old) run)
+      (front : IsFirstRun order run (m.left old) (m.right old) next (not (m.can_stop && take)) known count0 count) where
     -- a run was taken or dropped, and the merge goes on
-    pub Stage-on : IsAscending order (left old) → IsAscending order (right old)
-        → Ran left right left_on right_on output fixed is_infallible can_stop run take old new {E = E} (Ok true)
-        → Stage left right left_on right_on output fixed is_infallible can_stop order f old new known count0 count {E = E} (Ok (On next))
+    pub Stage-on : IsAscending order (m.left old) → IsAscending order (m.right old)
+        → Ran m run take old new {E = E} (Ok true)
+        → Stage m order f old new known count0 count {E = E} (Ok (On next))
     Stage-on l_ascends r_ascends ran =
-        let goes : not (can_stop && take) ≡ true = sym ran.goes_on in
+        let goes : not (m.can_stop && take) ≡ true = sym ran.goes_on in
         let goes_on = rw takes_is at ran.goes_on in
         let appends = rw takes_is at ran.appends in
         let lefts = ran.lefts refl in
@@ -91,8 +91,8 @@ module _ {K S E : Type 0} {left right : S → List K} {left_on right_on : S → 
         record {
           on = record {
             progress = rw (lefts, rights, ran.lefts_on, ran.rights_on) (Progress-run run front.at_start goes_on appends);
-            left_ascends = rw lefts (IsAscending-left_after o run (left old) l_ascends);
-            right_ascends = rw rights (IsAscending-right_after o run (right old) r_ascends);
+            left_ascends = rw lefts (IsAscending-left_after o run (m.left old) l_ascends);
+            right_ascends = rw rights (IsAscending-right_after o run (m.right old) r_ascends);
             stands = rw (lefts, rights) (front.after goes);
           };
           stops = tt;
@@ -105,14 +105,14 @@ module _ {K S E : Type 0} {left right : S → List K} {left_on right_on : S → 
         }
 
     -- the state stopped at a run
-    pub Stage-stopped : Ran left right left_on right_on output fixed is_infallible can_stop run take old new {E = E} (Ok false)
-        → Stage left right left_on right_on output fixed is_infallible can_stop order f old new known count0 count {E = E} (Ok Stopped)
+    pub Stage-stopped : Ran m run take old new {E = E} (Ok false)
+        → Stage m order f old new known count0 count {E = E} (Ok Stopped)
     Stage-stopped ran =
         let stops = rw takes_is at ran.goes_on in
         let appends = rw takes_is at ran.appends in
         record {
           on = tt;
-          stops = Stops-run f (left_on old) (right_on old) (output old) (output new) run front.at_start stops appends;
+          stops = Stops-run f (m.left_on old) (m.right_on old) (m.output old) (m.output new) run front.at_start stops appends;
           counted = tt;
           at_least = front.at_least;
           at_most = front.at_most;
@@ -122,9 +122,9 @@ module _ {K S E : Type 0} {left right : S → List K} {left_on right_on : S → 
         }
 
   -- a run was refused
-  pub Stage-refused : (run : Run) {take : Bool} {old new : S} {known count0 count : ℕ} (e : E) → count0 ≤ count → count + known ≤ count0 + 2 * weight order (left old) (right old)
-      → Ran left right left_on right_on output fixed is_infallible can_stop run take old new {E = E} (Err e)
-      → Stage left right left_on right_on output fixed is_infallible can_stop order f old new known count0 count {E = E} (Err e)
+  pub Stage-refused : (run : Run) {take : Bool} {old new : S} {known count0 count : ℕ} (e : E) → count0 ≤ count → count + known ≤ count0 + 2 * weight order (m.left old) (m.right old)
+      → Ran m run take old new {E = E} (Err e)
+      → Stage m order f old new known count0 count {E = E} (Err e)
   Stage-refused run e at_least at_most ran = record {
     on = tt;
     stops = tt;
@@ -138,9 +138,9 @@ module _ {K S E : Type 0} {left right : S → List K} {left_on right_on : S → 
 
   -- one part after another
   pub Stage-then : {old mid new : S} {next : Option Ordering} {known count0 count1 count2 : ℕ} (result : Result Went E)
-      → Stage left right left_on right_on output fixed is_infallible can_stop order f old mid known count0 count1 {E = E} (Ok (On next))
-      → Stage left right left_on right_on output fixed is_infallible can_stop order f mid new (ahead_of next) count1 count2 {E = E} result
-      → Stage left right left_on right_on output fixed is_infallible can_stop order f old new known count0 count2 {E = E} result
+      → Stage m order f old mid known count0 count1 {E = E} (Ok (On next))
+      → Stage m order f mid new (ahead_of next) count1 count2 {E = E} result
+      → Stage m order f old new known count0 count2 {E = E} result
   Stage-then (Ok (On after)) a b = record {
     on = record {
       progress = Progress-then a.on.progress b.on.progress;
@@ -158,7 +158,7 @@ module _ {K S E : Type 0} {left right : S → List K} {left_on right_on : S → 
   }
   Stage-then {old} {mid} {new} (Ok Stopped) a b = record {
     on = tt;
-    stops = Stops-then a.on.progress (output new) b.stops;
+    stops = Stops-then a.on.progress (m.output new) b.stops;
     counted = tt;
     at_least = omega (arith, a.at_least, b.at_least);
     at_most = omega (arith, a.counted, b.at_most);
@@ -178,38 +178,38 @@ module _ {K S E : Type 0} {left right : S → List K} {left_on right_on : S → 
   }
 
   -- a part of it, after the first items were compared
-  pub Stage-compared : {old new : S} (firsts : Option Ordering) {count0 count1 count2 : ℕ} (result : Result Went E) → IsAscending order (left old) → IsAscending order (right old)
-      → FirstsStand order (left old) (right old) firsts → count1 ≡ count0 + ahead_of firsts
-      → Stage left right left_on right_on output fixed is_infallible can_stop order f old new (ahead_of firsts) count1 count2 {E = E} result
-      → Stage left right left_on right_on output fixed is_infallible can_stop order f old new 0 count0 count2 {E = E} result
+  pub Stage-compared : {old new : S} (firsts : Option Ordering) {count0 count1 count2 : ℕ} (result : Result Went E) → IsAscending order (m.left old) → IsAscending order (m.right old)
+      → FirstsStand order (m.left old) (m.right old) firsts → count1 ≡ count0 + ahead_of firsts
+      → Stage m order f old new (ahead_of firsts) count1 count2 {E = E} result
+      → Stage m order f old new 0 count0 count2 {E = E} result
   Stage-compared {old} firsts {count0} {count1} result l_ascends r_ascends stands compared =
       Stage-then result (Stage-none old firsts 0 count0 count1 l_ascends r_ascends stands (omega (arith, compared)) (omega (arith, compared)))
 
   -- where one list is used up, what is left is one run, or nothing
-  module _ {mid new : S} {count : ℕ} (more : Bool) (l_ascends : IsAscending order (left mid)) (r_ascends : IsAscending order (right mid)) (one : FirstsStand order (left mid) (right mid) None)
-      (lefts : 1 ≤ length (left mid) → Ran left right left_on right_on output fixed is_infallible can_stop (Left (length (left mid))) (takes f (left_on mid) (right_on mid) (Left (length (left mid)))) mid new {E = E} (Ok more))
-      (rights : 1 ≤ length (right mid) → Ran left right left_on right_on output fixed is_infallible can_stop (Right (length (right mid))) (takes f (left_on mid) (right_on mid) (Right (length (right mid)))) mid new {E = E} (Ok more))
-      (nothing : length (left mid) ≡ 0 → length (right mid) ≡ 0 → (◌≡◌ {A = Result Bool E} (Ok more) (Ok true)) × (new ≡ mid)) where
-    rest-on : (n m : ℕ) → length (left mid) ≡ n → length (right mid) ≡ m → more ≡ true → Stage left right left_on right_on output fixed is_infallible can_stop order f mid new 0 count count {E = E} (Ok (On None))
+  module _ {mid new : S} {count : ℕ} (more : Bool) (l_ascends : IsAscending order (m.left mid)) (r_ascends : IsAscending order (m.right mid)) (one : FirstsStand order (m.left mid) (m.right mid) None)
+      (lefts : 1 ≤ length (m.left mid) → Ran m (Left (length (m.left mid))) (takes f (m.left_on mid) (m.right_on mid) (Left (length (m.left mid)))) mid new {E = E} (Ok more))
+      (rights : 1 ≤ length (m.right mid) → Ran m (Right (length (m.right mid))) (takes f (m.left_on mid) (m.right_on mid) (Right (length (m.right mid)))) mid new {E = E} (Ok more))
+      (nothing : length (m.left mid) ≡ 0 → length (m.right mid) ≡ 0 → (◌≡◌ {A = Result Bool E} (Ok more) (Ok true)) × (new ≡ mid)) where
+    rest-on : (n k : ℕ) → length (m.left mid) ≡ n → length (m.right mid) ≡ k → more ≡ true → Stage m order f mid new 0 count count {E = E} (Ok (On None))
     rest-on zero zero no_left no_right goes = rw (nothing no_left no_right).1 (Stage-none mid None 0 count count l_ascends r_ascends one (omega arith) (omega arith))
-    rest-on (suc n) m is_left is_right goes =
-        let some : 1 ≤ length (left mid) = omega arith in
-        Stage-on (Left (length (left mid))) refl (first_run-left_all o (left mid) (right mid) l_ascends r_ascends _ count some (one some)) l_ascends r_ascends (rw goes at lefts some)
-    rest-on zero (suc m) no_left is_right goes =
-        let some : 1 ≤ length (right mid) = omega arith in
-        Stage-on (Right (length (right mid))) refl (first_run-right_all o (left mid) (right mid) l_ascends r_ascends _ count some no_left) l_ascends r_ascends (rw goes at rights some)
+    rest-on (suc n) k is_left is_right goes =
+        let some : 1 ≤ length (m.left mid) = omega arith in
+        Stage-on (Left (length (m.left mid))) refl (first_run-left_all o (m.left mid) (m.right mid) l_ascends r_ascends _ count some (one some)) l_ascends r_ascends (rw goes at lefts some)
+    rest-on zero (suc k) no_left is_right goes =
+        let some : 1 ≤ length (m.right mid) = omega arith in
+        Stage-on (Right (length (m.right mid))) refl (first_run-right_all o (m.left mid) (m.right mid) l_ascends r_ascends _ count some no_left) l_ascends r_ascends (rw goes at rights some)
 
-    rest-stopped : (n m : ℕ) → length (left mid) ≡ n → length (right mid) ≡ m → more ≡ false → Stage left right left_on right_on output fixed is_infallible can_stop order f mid new 0 count count {E = E} (Ok Stopped)
+    rest-stopped : (n k : ℕ) → length (m.left mid) ≡ n → length (m.right mid) ≡ k → more ≡ false → Stage m order f mid new 0 count count {E = E} (Ok Stopped)
     rest-stopped zero zero no_left no_right stops = absurd (false≢true (sym stops ∙ cc ((nothing no_left no_right).0)))
-    rest-stopped (suc n) m is_left is_right stops =
-        let some : 1 ≤ length (left mid) = omega arith in
-        Stage-stopped (Left (length (left mid))) refl (first_run-left_all o (left mid) (right mid) l_ascends r_ascends _ count some (one some)) (rw stops at lefts some)
-    rest-stopped zero (suc m) no_left is_right stops =
-        let some : 1 ≤ length (right mid) = omega arith in
-        Stage-stopped (Right (length (right mid))) refl (first_run-right_all o (left mid) (right mid) l_ascends r_ascends _ count some no_left) (rw stops at rights some)
+    rest-stopped (suc n) k is_left is_right stops =
+        let some : 1 ≤ length (m.left mid) = omega arith in
+        Stage-stopped (Left (length (m.left mid))) refl (first_run-left_all o (m.left mid) (m.right mid) l_ascends r_ascends _ count some (one some)) (rw stops at lefts some)
+    rest-stopped zero (suc k) no_left is_right stops =
+        let some : 1 ≤ length (m.right mid) = omega arith in
+        Stage-stopped (Right (length (m.right mid))) refl (first_run-right_all o (m.left mid) (m.right mid) l_ascends r_ascends _ count some no_left) (rw stops at rights some)
 
-    pub Stage-rest : more ≡ true → Stage left right left_on right_on output fixed is_infallible can_stop order f mid new 0 count count {E = E} (Ok (On None))
-    Stage-rest = rest-on (length (left mid)) (length (right mid)) refl refl
+    pub Stage-rest : more ≡ true → Stage m order f mid new 0 count count {E = E} (Ok (On None))
+    Stage-rest = rest-on (length (m.left mid)) (length (m.right mid)) refl refl
 
-    pub Stage-rest_stopped : more ≡ false → Stage left right left_on right_on output fixed is_infallible can_stop order f mid new 0 count count {E = E} (Ok Stopped)
-    Stage-rest_stopped = rest-stopped (length (left mid)) (length (right mid)) refl refl
+    pub Stage-rest_stopped : more ≡ false → Stage m order f mid new 0 count count {E = E} (Ok Stopped)
+    Stage-rest_stopped = rest-stopped (length (m.left mid)) (length (m.right mid)) refl refl

@@ -66,40 +66,50 @@ module _ {K : Type 0} (order : K → K → Ordering) where
     pub at_least : count0 ≤ count
     pub at_most : count + known ≤ count0 + 2 * weight order l r
 
--- the members of a state, and whether it can stop
-module _ {K S : Type 0} (left right : S → List K) (left_on right_on : S → Bool)
-    (output : S → List (Taken K) → Type 0) (fixed : S → ℕ) (is_infallible : S → Type 0)
-    (can_stop : Bool) where
+-- the members of the trait MergeStateMut, of states S with items K
+abbrev pub Members : Type 0 → Type 0 → Type 1
+Members K S = record {
+  left : S → List K;
+  right : S → List K;
+  left_on : S → Bool;
+  right_on : S → Bool;
+  output : S → List (Taken K) → Type 0;
+  fixed : S → ℕ;
+  can_stop : Bool;
+  is_infallible : S → Type 0;
+}
+
+module _ {K S : Type 0} (m : Members K S) where
   -- a run was removed, and taken or dropped
   pub record Ran (run : Run) (take : Bool) (old new : S) {E : Type 0}
       (result : Result Bool E) : Type 0 where
-    pub goes_on : IfOk result (λ more. more ≡ not (can_stop && take))
-    pub lefts : IfOk result (λ more. more ≡ true → left new ≡ left_after run (left old))
-    pub rights : IfOk result (λ more. more ≡ true → right new ≡ right_after run (right old))
-    pub lefts_on : OnOk result (left_on new ≡ left_on_after run (left_on old))
-    pub rights_on : OnOk result (right_on new ≡ right_on_after run (right_on old))
-    pub appends : OnOk result ((before : List (Taken K)) → output old before →
-        output new (before ++ taken_of_run take run (left old) (right old)))
-    pub stays : fixed new ≡ fixed old
-    pub succeeds : is_infallible old → IsOk result
-    pub still_infallible : is_infallible old → OnOk result (is_infallible new)
+    pub goes_on : IfOk result (λ more. more ≡ not (m.can_stop && take))
+    pub lefts : IfOk result (λ more. more ≡ true → m.left new ≡ left_after run (m.left old))
+    pub rights : IfOk result (λ more. more ≡ true → m.right new ≡ right_after run (m.right old))
+    pub lefts_on : OnOk result (m.left_on new ≡ left_on_after run (m.left_on old))
+    pub rights_on : OnOk result (m.right_on new ≡ right_on_after run (m.right_on old))
+    pub appends : OnOk result ((before : List (Taken K)) → m.output old before →
+        m.output new (before ++ taken_of_run take run (m.left old) (m.right old)))
+    pub stays : m.fixed new ≡ m.fixed old
+    pub succeeds : m.is_infallible old → IsOk result
+    pub still_infallible : m.is_infallible old → OnOk result (m.is_infallible new)
 
   module _ (order : K → K → Ordering) (f : Table) where
     -- the merge goes on: what it took, and how the next items stand
     pub record GoesOn (old new : S) (next : Option Ordering) : Type 0 where
-      pub progress : Progress order f can_stop
-          (left old) (right old) (left_on old) (right_on old) (output old)
-          (left new) (right new) (left_on new) (right_on new) (output new)
-      pub left_ascends : IsAscending order (left new)
-      pub right_ascends : IsAscending order (right new)
-      pub stands : FirstsStand order (left new) (right new) next
+      pub progress : Progress order f m.can_stop
+          (m.left old) (m.right old) (m.left_on old) (m.right_on old) (m.output old)
+          (m.left new) (m.right new) (m.left_on new) (m.right_on new) (m.output new)
+      pub left_ascends : IsAscending order (m.left new)
+      pub right_ascends : IsAscending order (m.right new)
+      pub stands : FirstsStand order (m.left new) (m.right new) next
 
     -- the state stopped among the first of what the walk takes
     abbrev pub StopsHere : S → S → Type 0
     StopsHere old new =
-        (can_stop ≡ true)
-        × StopsAmong (owners order (left old) (right old)) (output old) (output new)
-        (walk f (left_on old) (right_on old) (owners order (left old) (right old)))
+        (m.can_stop ≡ true)
+        × StopsAmong (owners order (m.left old) (m.right old)) (m.output old) (m.output new)
+        (walk f (m.left_on old) (m.right_on old) (owners order (m.left old) (m.right old)))
 
     -- a stage of a merge, where `known` of its comparisons were made before it
     pub record Stage (old new : S) (known count0 count : ℕ) {E : Type 0}
@@ -107,10 +117,10 @@ module _ {K S : Type 0} (left right : S → List K) (left_on right_on : S → Bo
       pub on : IfOk result (IfOn (GoesOn old new))
       pub stops : IfOk result (IfStopped (StopsHere old new))
       pub counted : IfOk result (IfOn (λ next.
-          count + known + 2 * weight order (left new) (right new)
-          ≤ count0 + 2 * weight order (left old) (right old) + ahead_of next))
+          count + known + 2 * weight order (m.left new) (m.right new)
+          ≤ count0 + 2 * weight order (m.left old) (m.right old) + ahead_of next))
       pub at_least : count0 ≤ count
-      pub at_most : count + known ≤ count0 + 2 * weight order (left old) (right old)
-      pub stays : fixed new ≡ fixed old
-      pub succeeds : is_infallible old → IsOk result
-      pub still_infallible : is_infallible old → OnOk result (is_infallible new)
+      pub at_most : count + known ≤ count0 + 2 * weight order (m.left old) (m.right old)
+      pub stays : m.fixed new ≡ m.fixed old
+      pub succeeds : m.is_infallible old → IsOk result
+      pub still_infallible : m.is_infallible old → OnOk result (m.is_infallible new)

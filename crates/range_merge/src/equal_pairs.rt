@@ -32,8 +32,7 @@ pub(crate) fn steps_both<S: MergeStateMut, O: MergeOperation, C: Compare<S::Item
     requires right_ascending { IsAscending C.order (S.right state.old) }
     requires fits { length (S.left state.old) + length (S.right state.old) < 2 ^ 65 }
     requires made { C.count cmp.old < 2 ^ 126 }
-    ensures stage { Stage S.left S.right S.left_on S.right_on S.output S.fixed S.is_infallible
-        S.can_stop C.order (O.connective op.now) state.old state.new
+    ensures stage { Stage S.MergeStateMut C.order (O.connective op.now) state.old state.new
         (ahead_of firsts) (C.count cmp.old) (C.count cmp.new) result }
     ensures turn { IfOk result (IfOn (λ next. IsTurn Equal firsts next
         (length (S.left state.old) + length (S.right state.old))
@@ -69,8 +68,7 @@ fn step_pairs<S: MergeStateMut, O: MergeOperation, C: Compare<S::Item>>(
     requires pairs { IsTrue eight → ArePairs C.order 8 (S.left state.old) (S.right state.old) }
     requires go_on { IsTrue eight → PairsGoOn (O.connective op.now) S.can_stop
         (S.left_on state.old) (S.right_on state.old) }
-    ensures stage { Stage S.left S.right S.left_on S.right_on S.output S.fixed S.is_infallible
-        S.can_stop C.order (O.connective op.now) state.old state.new
+    ensures stage { Stage S.MergeStateMut C.order (O.connective op.now) state.old state.new
         1 (C.count cmp.old) (C.count cmp.new) result }
     ensures shorter { IfOk result (IfOn (λ _.
         (length (S.left state.new) < length (S.left state.old))
@@ -100,8 +98,7 @@ fn step_eight<S: MergeStateMut, O: MergeOperation, C: Compare<S::Item>>(
     requires left_ascending { IsAscending C.order (S.left state.old) }
     requires right_ascending { IsAscending C.order (S.right state.old) }
     requires made { C.count cmp.old < 2 ^ 127 }
-    ensures stage { Stage S.left S.right S.left_on S.right_on S.output S.fixed S.is_infallible
-        S.can_stop C.order (O.connective op.now) state.old state.new
+    ensures stage { Stage S.MergeStateMut C.order (O.connective op.now) state.old state.new
         1 (C.count cmp.old) (C.count cmp.new) result }
     ensures shorter { IfOk result (IfOn (λ _.
         (length (S.left state.new) + 8 ≡ length (S.left state.old))
@@ -130,8 +127,7 @@ fn step_both<S: MergeStateMut, O: MergeOperation, C: Compare<S::Item>>(
     requires left_ascending { IsAscending C.order (S.left state.old) }
     requires right_ascending { IsAscending C.order (S.right state.old) }
     requires made { C.count cmp.old < 2 ^ 127 }
-    ensures stage { Stage S.left S.right S.left_on S.right_on S.output S.fixed S.is_infallible
-        S.can_stop C.order (O.connective op.now) state.old state.new
+    ensures stage { Stage S.MergeStateMut C.order (O.connective op.now) state.old state.new
         1 (C.count cmp.old) (C.count cmp.new) result }
     ensures go_on { IfOk result (IfOn (λ _. PairsGoOn (O.connective op.now) S.can_stop
         (S.left_on state.new) (S.right_on state.new))) }

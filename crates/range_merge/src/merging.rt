@@ -96,8 +96,7 @@ pub(crate) fn take_rounds<S: MergeStateMut, O: MergeOperation, C: Compare<S::Ite
     requires right_ascending { IsAscending C.order (S.right state.old) }
     requires fits { length (S.left state.old) + length (S.right state.old) < 2 ^ 65 }
     requires made { C.count cmp.old < 2 ^ 125 }
-    ensures stage { Stage S.left S.right S.left_on S.right_on S.output S.fixed S.is_infallible
-        S.can_stop C.order (O.connective op.now) state.old state.new
+    ensures stage { Stage S.MergeStateMut C.order (O.connective op.now) state.old state.new
         (ahead_of firsts) (C.count cmp.old) (C.count cmp.new) result }
     ensures no_longer { IfOk result (IfOn (λ _.
         length (S.left state.new) + length (S.right state.new)
@@ -159,8 +158,7 @@ fn step_left<S: MergeStateMut, O: MergeOperation, C: Compare<S::Item>>(
     requires left_ascending { IsAscending C.order (S.left state.old) }
     requires right_ascending { IsAscending C.order (S.right state.old) }
     requires made { C.count cmp.old < 2 ^ 127 }
-    ensures stage { Stage S.left S.right S.left_on S.right_on S.output S.fixed S.is_infallible
-        S.can_stop C.order (O.connective op.now) state.old state.new
+    ensures stage { Stage S.MergeStateMut C.order (O.connective op.now) state.old state.new
         (ahead_of firsts) (C.count cmp.old) (C.count cmp.new) result }
     ensures turn { IfOk result (IfOn (λ next. IsTurn Less firsts next
         (length (S.left state.old) + length (S.right state.old))
@@ -192,8 +190,7 @@ fn step_right<S: MergeStateMut, O: MergeOperation, C: Compare<S::Item>>(
     requires left_ascending { IsAscending C.order (S.left state.old) }
     requires right_ascending { IsAscending C.order (S.right state.old) }
     requires made { C.count cmp.old < 2 ^ 127 }
-    ensures stage { Stage S.left S.right S.left_on S.right_on S.output S.fixed S.is_infallible
-        S.can_stop C.order (O.connective op.now) state.old state.new
+    ensures stage { Stage S.MergeStateMut C.order (O.connective op.now) state.old state.new
         (ahead_of firsts) (C.count cmp.old) (C.count cmp.new) result }
     ensures turn { IfOk result (IfOn (λ next. IsTurn Greater firsts next
         (length (S.left state.old) + length (S.right state.old))
@@ -229,13 +226,11 @@ pub(crate) fn take_rest<S: MergeStateMut, O: MergeOperation>(
 ) -> Result<bool, AllocError>
     requires used_up { 1 ≤ length (S.left state.old) → length (S.right state.old) ≡ 0 }
     ensures left { 1 ≤ length (S.left state.old) →
-        Ran S.left S.right S.left_on S.right_on S.output S.fixed S.is_infallible S.can_stop
-        (Left (length (S.left state.old)))
+        Ran S.MergeStateMut (Left (length (S.left state.old)))
         (takes (O.connective op.now) (S.left_on state.old) (S.right_on state.old)
         (Left (length (S.left state.old)))) state.old state.new result }
     ensures right { 1 ≤ length (S.right state.old) →
-        Ran S.left S.right S.left_on S.right_on S.output S.fixed S.is_infallible S.can_stop
-        (Right (length (S.right state.old)))
+        Ran S.MergeStateMut (Right (length (S.right state.old)))
         (takes (O.connective op.now) (S.left_on state.old) (S.right_on state.old)
         (Right (length (S.right state.old)))) state.old state.new result }
     ensures nothing { length (S.left state.old) ≡ 0 → length (S.right state.old) ≡ 0 →
@@ -297,8 +292,7 @@ fn right_run<S: MergeStateMut, C: Compare<S::Item>>(state: &S, take: bool, cmp: 
 fn advance_left<S: MergeStateMut>(state: &mut S, n: usize, take: bool) -> Result<bool, AllocError>
     requires some { 1 ≤ n }
     requires within { n ≤ length (S.left state.old) }
-    ensures { Ran S.left S.right S.left_on S.right_on S.output S.fixed S.is_infallible S.can_stop
-        (Left n) take state.old state.new result }
+    ensures { Ran S.MergeStateMut (Left n) take state.old state.new result }
 {
     if n == 1 {
         return state.advance_a(1, take);
@@ -311,8 +305,7 @@ fn advance_left<S: MergeStateMut>(state: &mut S, n: usize, take: bool) -> Result
 fn advance_right<S: MergeStateMut>(state: &mut S, n: usize, take: bool) -> Result<bool, AllocError>
     requires some { 1 ≤ n }
     requires within { n ≤ length (S.right state.old) }
-    ensures { Ran S.left S.right S.left_on S.right_on S.output S.fixed S.is_infallible S.can_stop
-        (Right n) take state.old state.new result }
+    ensures { Ran S.MergeStateMut (Right n) take state.old state.new result }
 {
     if n == 1 {
         return state.advance_b(1, take);

@@ -38,8 +38,7 @@ pub(crate) trait ShortRuns<S: MergeStateMut, O: MergeOperation, C: Compare<S::It
         requires right_ascending { IsAscending C.order (S.right state.old) }
         requires fits { length (S.left state.old) + length (S.right state.old) < 2 ^ 65 }
         requires made { C.count cmp.old < 2 ^ 126 }
-        ensures goes_on { GoesOn S.left S.right S.left_on S.right_on S.output S.fixed S.is_infallible
-            S.can_stop C.order (O.connective op.now) state.old state.new (Some result) }
+        ensures goes_on { GoesOn S.MergeStateMut C.order (O.connective op.now) state.old state.new (Some result) }
         ensures no_longer { length (S.left state.new) + length (S.right state.new)
             ≤ length (S.left state.old) + length (S.right state.old) }
         ensures fixed { S.fixed state.new ≡ S.fixed state.old }
@@ -185,8 +184,7 @@ fn take_runs<S: MergeStateMut, O: MergeOperation, C: Compare<S::Item>, R: ShortR
     requires left_ascending { IsAscending C.order (S.left state.old) }
     requires right_ascending { IsAscending C.order (S.right state.old) }
     requires made { C.count cmp.old < 2 ^ 64 }
-    ensures stage { Stage S.left S.right S.left_on S.right_on S.output S.fixed S.is_infallible
-        S.can_stop C.order (O.connective op.now) state.old state.new
+    ensures stage { Stage S.MergeStateMut C.order (O.connective op.now) state.old state.new
         0 (C.count cmp.old) (C.count cmp.new) result }
     ensures used_up { IfOk result (IfOn (λ next. next ≡ None)) }
 {
@@ -216,8 +214,7 @@ fn read_on<S: MergeStateMut, O: MergeOperation, C: Compare<S::Item>, R: ShortRun
     requires right_ascending { IsAscending C.order (S.right state.old) }
     requires fits { length (S.left state.old) + length (S.right state.old) < 2 ^ 65 }
     requires made { C.count cmp.old < 2 ^ 126 }
-    ensures goes_on { GoesOn S.left S.right S.left_on S.right_on S.output S.fixed S.is_infallible
-        S.can_stop C.order (O.connective op.now) state.old state.new result }
+    ensures goes_on { GoesOn S.MergeStateMut C.order (O.connective op.now) state.old state.new result }
     ensures no_longer { length (S.left state.new) + length (S.right state.new)
         ≤ length (S.left state.old) + length (S.right state.old) }
     ensures fixed { S.fixed state.new ≡ S.fixed state.old }

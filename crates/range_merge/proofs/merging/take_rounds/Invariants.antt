@@ -1,5 +1,5 @@
 use Rattle.std.proofs.Common.{◌≡◌, ℕ, ◌+◌, ◌*◌, ◌^◌, ◌<◌, ◌≤◌, length, Ok, Some, None}
-use Rattle.range_merge.specs.Stages.{Stage}
+use Rattle.range_merge.specs.Stages.{Members, Stage}
 use Rattle.range_merge.specs.Runs.{weight}
 use Rattle.range_merge.specs.OneRun.{ahead_of}
 use Rattle.range_merge.specs.declared.merging.Went.TheVariants.{On}
@@ -11,10 +11,10 @@ invariant-loop-remaining g l =
     let left = g.S.MergeState.left in
     let right = g.S.MergeState.right in
     let state = g.S.MergeStateMut in
+    let m : Members _ _ = record { left = left; right = right; left_on = state.left_on; right_on = state.right_on; output = state.output; fixed = state.fixed; can_stop = state.can_stop; is_infallible = state.is_infallible } in
     let count = g.C.Compare.count in
     record {
-      stage : Stage left right state.left_on state.right_on state.output state.fixed state.is_infallible state.can_stop
-          g.C.Compare.order (g.O.MergeOperation.connective l.op) l.fn.state l.state (ahead_of l.fn.firsts) (count l.fn.cmp) (count l.cmp) {E = AllocError} (Ok (On l.firsts));
+      stage : Stage m g.C.Compare.order (g.O.MergeOperation.connective l.op) l.fn.state l.state (ahead_of l.fn.firsts) (count l.fn.cmp) (count l.cmp) {E = AllocError} (Ok (On l.firsts));
       fits : length (left l.fn.state) + length (right l.fn.state) < 2 ^ 65;
       no_longer : length (left l.state) + length (right l.state) ≤ length (left l.fn.state) + length (right l.fn.state);
       same : length (left l.state) + length (right l.state) ≡ length (left l.fn.state) + length (right l.fn.state)
