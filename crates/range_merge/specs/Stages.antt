@@ -1,6 +1,7 @@
 -- A stage of a merge: what it takes, what is left after it, and what it costs.
 --     Progress order f s ..       what was taken between two places of a merge
 --     IsFirstRun order run ..     a run at the start of two lists, and what it cost to find
+--     Begins .. s firsts          a state before a stage of a merge
 --     Ran .. run take old new r   a state before and after it took a run or dropped it
 --     Stage .. old new .. r        a state before and after a stage of a merge
 use Rattle.std.specs.Prelude.{◌≡◌, ℕ, ◌+◌, ◌*◌, ◌≤◌, ◌<◌, Bool, true, not, ◌&&◌, List, [], ◌++◌, Option, Some, Result, IsOk, OnOk, IfOk}
@@ -80,6 +81,12 @@ Members K S = record {
 }
 
 module _ {K S : Type 0} (m : Members K S) where
+  -- where a stage begins: both lists ascend, and the first items stand so
+  pub record Begins (order : K → K → Ordering) (s : S) (firsts : Option Ordering) : Type 0 where
+    pub left_ascending : IsAscending order (m.left s)
+    pub right_ascending : IsAscending order (m.right s)
+    pub stands : FirstsStand order (m.left s) (m.right s) firsts
+
   -- a run was removed, and taken or dropped
   pub record Ran (run : Run) (take : Bool) (old new : S) {E : Type 0}
       (result : Result Bool E) : Type 0 where

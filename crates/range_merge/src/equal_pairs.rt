@@ -4,7 +4,7 @@ ghost use Rattle.std.specs.Prelude.{◌≡◌, ◌+◌, ◌-◌, ◌*◌, ◌^�
 ghost use Rattle.std.specs.declared.cmp.Ordering.TheVariants.{Equal};
 ghost use Rattle.range_merge.specs.Boundaries.{IsAscending};
 ghost use Rattle.range_merge.specs.Changes.{Taken, taken_left};
-ghost use Rattle.range_merge.specs.Stages.{IfOn, IsTurn, Leaves, Stage};
+ghost use Rattle.range_merge.specs.Stages.{Begins, IfOn, IsTurn, Leaves, Stage};
 ghost use Rattle.range_merge.specs.Runs.{weight};
 ghost use Rattle.range_merge.specs.OneRun.{ArePairs, FirstsStand, PairsGoOn, ahead_of};
 
@@ -27,9 +27,7 @@ pub(crate) fn steps_both<S: MergeStateMut, O: MergeOperation, C: Compare<S::Item
     mut firsts: Option<Ordering>,
     cmp: &mut C,
 ) -> Result<Went, AllocError>
-    requires stands { FirstsStand C.order (S.left state.old) (S.right state.old) firsts }
-    requires left_ascending { IsAscending C.order (S.left state.old) }
-    requires right_ascending { IsAscending C.order (S.right state.old) }
+    requires begins { Begins S.MergeStateMut C.order state.old firsts }
     requires fits { length (S.left state.old) + length (S.right state.old) < 2 ^ 65 }
     requires made { C.count cmp.old < 2 ^ 126 }
     ensures stage { Stage S.MergeStateMut C.order (O.connective op.now) state.old state.new
@@ -61,9 +59,7 @@ fn step_pairs<S: MergeStateMut, O: MergeOperation, C: Compare<S::Item>>(
     eight: bool,
     cmp: &mut C,
 ) -> Result<Went, AllocError>
-    requires stands { FirstsStand C.order (S.left state.old) (S.right state.old) (Some Equal) }
-    requires left_ascending { IsAscending C.order (S.left state.old) }
-    requires right_ascending { IsAscending C.order (S.right state.old) }
+    requires begins { Begins S.MergeStateMut C.order state.old (Some Equal) }
     requires made { C.count cmp.old < 2 ^ 127 }
     requires pairs { IsTrue eight → ArePairs C.order 8 (S.left state.old) (S.right state.old) }
     requires go_on { IsTrue eight → PairsGoOn (O.connective op.now) S.can_stop
@@ -123,9 +119,7 @@ fn step_both<S: MergeStateMut, O: MergeOperation, C: Compare<S::Item>>(
     op: &O,
     cmp: &mut C,
 ) -> Result<Went, AllocError>
-    requires stands { FirstsStand C.order (S.left state.old) (S.right state.old) (Some Equal) }
-    requires left_ascending { IsAscending C.order (S.left state.old) }
-    requires right_ascending { IsAscending C.order (S.right state.old) }
+    requires begins { Begins S.MergeStateMut C.order state.old (Some Equal) }
     requires made { C.count cmp.old < 2 ^ 127 }
     ensures stage { Stage S.MergeStateMut C.order (O.connective op.now) state.old state.new
         1 (C.count cmp.old) (C.count cmp.new) result }

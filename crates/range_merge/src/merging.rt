@@ -6,7 +6,7 @@ ghost use Rattle.range_merge.specs.Boundaries.{IsAscending};
 ghost use Rattle.range_merge.specs.Changes.{Taken, changes, StopsAmong};
 ghost use Rattle.range_merge.specs.Counting.{AddsAtMost};
 ghost use Rattle.range_merge.specs.Owners.{owners};
-ghost use Rattle.range_merge.specs.Stages.{IfOn, IsFirstRun, IsTurn, Leaves, Stage, Ran};
+ghost use Rattle.range_merge.specs.Stages.{Begins, IfOn, IsFirstRun, IsTurn, Leaves, Ran, Stage};
 ghost use Rattle.range_merge.specs.Runs.{weight};
 ghost use Rattle.range_merge.specs.OneRun.{FirstsStand, ahead_of, takes};
 ghost use Rattle.range_merge.specs.declared.runs.Run.TheVariants.{Left, Right};
@@ -91,9 +91,7 @@ pub(crate) fn take_rounds<S: MergeStateMut, O: MergeOperation, C: Compare<S::Ite
     rounds: Option<u32>,
     cmp: &mut C,
 ) -> Result<Went, AllocError>
-    requires stands { FirstsStand C.order (S.left state.old) (S.right state.old) firsts }
-    requires left_ascending { IsAscending C.order (S.left state.old) }
-    requires right_ascending { IsAscending C.order (S.right state.old) }
+    requires begins { Begins S.MergeStateMut C.order state.old firsts }
     requires fits { length (S.left state.old) + length (S.right state.old) < 2 ^ 65 }
     requires made { C.count cmp.old < 2 ^ 125 }
     ensures stage { Stage S.MergeStateMut C.order (O.connective op.now) state.old state.new
@@ -154,9 +152,7 @@ fn step_left<S: MergeStateMut, O: MergeOperation, C: Compare<S::Item>>(
     firsts: Option<Ordering>,
     cmp: &mut C,
 ) -> Result<Went, AllocError>
-    requires stands { FirstsStand C.order (S.left state.old) (S.right state.old) firsts }
-    requires left_ascending { IsAscending C.order (S.left state.old) }
-    requires right_ascending { IsAscending C.order (S.right state.old) }
+    requires begins { Begins S.MergeStateMut C.order state.old firsts }
     requires made { C.count cmp.old < 2 ^ 127 }
     ensures stage { Stage S.MergeStateMut C.order (O.connective op.now) state.old state.new
         (ahead_of firsts) (C.count cmp.old) (C.count cmp.new) result }
@@ -186,9 +182,7 @@ fn step_right<S: MergeStateMut, O: MergeOperation, C: Compare<S::Item>>(
     firsts: Option<Ordering>,
     cmp: &mut C,
 ) -> Result<Went, AllocError>
-    requires stands { FirstsStand C.order (S.left state.old) (S.right state.old) firsts }
-    requires left_ascending { IsAscending C.order (S.left state.old) }
-    requires right_ascending { IsAscending C.order (S.right state.old) }
+    requires begins { Begins S.MergeStateMut C.order state.old firsts }
     requires made { C.count cmp.old < 2 ^ 127 }
     ensures stage { Stage S.MergeStateMut C.order (O.connective op.now) state.old state.new
         (ahead_of firsts) (C.count cmp.old) (C.count cmp.new) result }
@@ -254,9 +248,7 @@ pub(crate) fn take_rest<S: MergeStateMut, O: MergeOperation>(
 // The first run, which is of the left list. Where the state stops at it, its first item is enough.
 #[inline(always)]
 fn left_run<S: MergeStateMut, C: Compare<S::Item>>(state: &S, take: bool, cmp: &mut C) -> Below
-    requires stands { FirstsStand C.order (S.left state.now) (S.right state.now) (Some Less) }
-    requires left_ascending { IsAscending C.order (S.left state.now) }
-    requires right_ascending { IsAscending C.order (S.right state.now) }
+    requires begins { Begins S.MergeStateMut C.order state.now (Some Less) }
     requires made { C.count cmp.old < 2 ^ 127 }
     ensures { IsFirstRun C.order (Left result.len) (S.left state.now) (S.right state.now)
         result.next (not (S.can_stop && take)) 1 (C.count cmp.old) (C.count cmp.new) }
@@ -270,9 +262,7 @@ fn left_run<S: MergeStateMut, C: Compare<S::Item>>(state: &S, take: bool, cmp: &
 // The first run, which is of the right list. Where the state stops at it, its first item is enough.
 #[inline(always)]
 fn right_run<S: MergeStateMut, C: Compare<S::Item>>(state: &S, take: bool, cmp: &mut C) -> Below
-    requires stands { FirstsStand C.order (S.left state.now) (S.right state.now) (Some Greater) }
-    requires left_ascending { IsAscending C.order (S.left state.now) }
-    requires right_ascending { IsAscending C.order (S.right state.now) }
+    requires begins { Begins S.MergeStateMut C.order state.now (Some Greater) }
     requires made { C.count cmp.old < 2 ^ 127 }
     ensures { IsFirstRun C.order (Right result.len) (S.left state.now) (S.right state.now)
         result.next (not (S.can_stop && take)) 1 (C.count cmp.old) (C.count cmp.new) }

@@ -5,7 +5,7 @@ ghost use Rattle.range_merge.specs.Boundaries.{IsAscending};
 ghost use Rattle.range_merge.specs.Changes.{Taken, changes, StopsAmong};
 ghost use Rattle.range_merge.specs.Counting.{AddsAtMost};
 ghost use Rattle.range_merge.specs.Owners.{owners};
-ghost use Rattle.range_merge.specs.Stages.{GoesOn, IfOn, Stage};
+ghost use Rattle.range_merge.specs.Stages.{Begins, GoesOn, IfOn, Stage};
 ghost use Rattle.range_merge.specs.Runs.{weight};
 ghost use Rattle.range_merge.specs.Singly.{odd_from};
 ghost use Rattle.range_merge.specs.OneRun.{FirstsStand};
@@ -33,9 +33,7 @@ pub(crate) trait ShortRuns<S: MergeStateMut, O: MergeOperation, C: Compare<S::It
     /// Reads on from the start of both lists, as far as their runs are short, and returns how the
     /// next two items stand to one another. It may read nothing.
     fn read(&mut self, state: &mut S, op: &O, next: Ordering, cmp: &mut C) -> Ordering
-        requires stands { FirstsStand C.order (S.left state.old) (S.right state.old) (Some next) }
-        requires left_ascending { IsAscending C.order (S.left state.old) }
-        requires right_ascending { IsAscending C.order (S.right state.old) }
+        requires begins { Begins S.MergeStateMut C.order state.old (Some next) }
         requires fits { length (S.left state.old) + length (S.right state.old) < 2 ^ 65 }
         requires made { C.count cmp.old < 2 ^ 126 }
         ensures goes_on { GoesOn S.MergeStateMut C.order (O.connective op.now) state.old state.new (Some result) }
@@ -209,9 +207,7 @@ fn read_on<S: MergeStateMut, O: MergeOperation, C: Compare<S::Item>, R: ShortRun
     cmp: &mut C,
     reader: &mut R,
 ) -> Option<Ordering>
-    requires stands { FirstsStand C.order (S.left state.old) (S.right state.old) firsts }
-    requires left_ascending { IsAscending C.order (S.left state.old) }
-    requires right_ascending { IsAscending C.order (S.right state.old) }
+    requires begins { Begins S.MergeStateMut C.order state.old firsts }
     requires fits { length (S.left state.old) + length (S.right state.old) < 2 ^ 65 }
     requires made { C.count cmp.old < 2 ^ 126 }
     ensures goes_on { GoesOn S.MergeStateMut C.order (O.connective op.now) state.old state.new result }

@@ -15,7 +15,7 @@ returns-in-Ok-false-clause-stage g c =
     let takes_is = rw (c.ac.ensures, c.bc.ensures) at c.takes_both-take.ensures in
     let went = c.in-Ok-false.ensures in
     let stops = sym c.in-Ok-false.field-0-test ∙ went.goes_on in
-    let front = first_run-one g.met.C.Compare.total _ _ c.requires.left_ascending c.requires.right_ascending Both Equal None _ _ refl c.requires.stands (sym stops) in
+    let front = first_run-one g.met.C.Compare.total _ _ c.requires.begins.left_ascending c.requires.begins.right_ascending Both Equal None _ _ refl c.requires.begins.stands (sym stops) in
     Stage-stopped g.met.C.Compare.total Both takes_is front
     record {
       goes_on = stops;
@@ -35,14 +35,14 @@ returns-in-Ok-true-clause-stage g c =
     let went = c.in-Ok-true.ensures in
     let lefts = went.unread_left c.in-Ok-true.field-0-test in
     let rights = went.unread_right c.in-Ok-true.field-0-test in
-    let firsts = c.requires.stands in
-    let first = runs-both g.met.C.Compare.total _ _ c.requires.left_ascending c.requires.right_ascending (omega (arith, firsts.0)) (omega (arith, firsts.1)) firsts.2 in
+    let firsts = c.requires.begins.stands in
+    let first = runs-both g.met.C.Compare.total _ _ c.requires.begins.left_ascending c.requires.begins.right_ascending (omega (arith, firsts.0)) (omega (arith, firsts.1)) firsts.2 in
     let after = rw (lefts, rights) at c.order_at.ensures.firsts in
     let front =
-    first_run-first g.met.C.Compare.total _ _ c.requires.left_ascending c.requires.right_ascending Both c.order_at.result _ 1 _ _ first after
+    first_run-first g.met.C.Compare.total _ _ c.requires.begins.left_ascending c.requires.begins.right_ascending Both c.order_at.result _ 1 _ _ first after
     (omega (arith, c.order_at.ensures.comparisons))
     (omega (arith, c.order_at.ensures.comparisons, ahead_of-le c.order_at.result, digits-half 0 1 (omega arith) (omega arith))) in
-    Stage-on g.met.C.Compare.total Both takes_is front c.requires.left_ascending c.requires.right_ascending
+    Stage-on g.met.C.Compare.total Both takes_is front c.requires.begins.left_ascending c.requires.begins.right_ascending
     record {
       goes_on = sym c.in-Ok-true.field-0-test ∙ went.goes_on;
       lefts = λ _. lefts;
@@ -58,7 +58,7 @@ returns-in-Ok-true-clause-stage g c =
 pub returns-in-Err-clause-stage : goal.returns-in-Err-clause-stage
 returns-in-Err-clause-stage g c =
     let went = c.advance_both.ensures in
-    let weighs = weight-some g.met.C.Compare.total _ _ c.requires.left_ascending c.requires.right_ascending c.requires.stands.0 in
+    let weighs = weight-some g.met.C.Compare.total _ _ c.requires.begins.left_ascending c.requires.begins.right_ascending c.requires.begins.stands.0 in
     Stage-refused g.met.C.Compare.total Both {take = c.takes_both-take.result} c.in-Err.error (omega arith) (omega (arith, weighs))
     record {
       goes_on = tt;
@@ -77,11 +77,11 @@ returns-in-Ok-true-clause-leaves g c =
     let went = c.in-Ok-true.ensures in
     let lefts = went.unread_left c.in-Ok-true.field-0-test in
     let rights = went.unread_right c.in-Ok-true.field-0-test in
-    let firsts = c.requires.stands in
-    let first = runs-both g.met.C.Compare.total _ _ c.requires.left_ascending c.requires.right_ascending (omega (arith, firsts.0)) (omega (arith, firsts.1)) firsts.2 in
+    let firsts = c.requires.begins.stands in
+    let first = runs-both g.met.C.Compare.total _ _ c.requires.begins.left_ascending c.requires.begins.right_ascending (omega (arith, firsts.0)) (omega (arith, firsts.1)) firsts.2 in
     let after = rw (lefts, rights) at c.order_at.ensures.firsts in
     let front =
-    first_run-first g.met.C.Compare.total _ _ c.requires.left_ascending c.requires.right_ascending Both c.order_at.result true 1 _ _ first after
+    first_run-first g.met.C.Compare.total _ _ c.requires.begins.left_ascending c.requires.begins.right_ascending Both c.order_at.result true 1 _ _ first after
     (omega (arith, c.order_at.ensures.comparisons))
     (omega (arith, c.order_at.ensures.comparisons, ahead_of-le c.order_at.result, digits-half 0 1 (omega arith) (omega arith))) in
     first_run-leaves Both front refl lefts rights

@@ -9,7 +9,7 @@ use Rattle.range_merge.proofs.equal_pairs.steps_both.Goals as goal
 
 pub loop-firsts-init : goal.loop-firsts-init
 loop-firsts-init g c = record {
-  stage = Stage-none g.met.C.Compare.total c.args.state.now c.args.firsts _ _ _ c.requires.left_ascending c.requires.right_ascending c.requires.stands (omega arith) (omega arith);
+  stage = Stage-none g.met.C.Compare.total c.args.state.now c.args.firsts _ _ _ c.requires.begins.left_ascending c.requires.begins.right_ascending c.requires.begins.stands (omega arith) (omega arith);
   no_longer = omega arith;
   same = λ _. refl;
   leaves = omega arith;
@@ -20,7 +20,7 @@ loop-firsts-init g c = record {
 
 pub next_pairs-pairs-requires-clause-made : goal.next_pairs-pairs-requires-clause-made
 next_pairs-pairs-requires-clause-made g c =
-    omega (arith, c.loop-firsts.invariant.leaves, weight-le g.met.C.Compare.total _ _ c.requires.left_ascending c.requires.right_ascending)
+    omega (arith, c.loop-firsts.invariant.leaves, weight-le g.met.C.Compare.total _ _ c.requires.begins.left_ascending c.requires.begins.right_ascending)
 
 pub step_pairs-requires-clause-made : goal.step_pairs-requires-clause-made
 step_pairs-requires-clause-made g c =
@@ -28,7 +28,7 @@ step_pairs-requires-clause-made g c =
       arith,
       c.loop-firsts.invariant.leaves,
       c.next_pairs-pairs.ensures.at_most,
-      weight-le g.met.C.Compare.total _ _ c.requires.left_ascending c.requires.right_ascending,
+      weight-le g.met.C.Compare.total _ _ c.requires.begins.left_ascending c.requires.begins.right_ascending,
     )
 
 pub returns-in_default-clause-stage : goal.returns-in_default-clause-stage

@@ -10,14 +10,14 @@ use Rattle.range_merge.proofs.merging.right_run.Goals as goal
 
 pub returns-then-stops : goal.returns-then-stops
 returns-then-stops g c =
-    first_run-one g.met.C.Compare.total _ _ c.requires.left_ascending c.requires.right_ascending (Right 1) Greater None _ _ refl c.requires.stands
+    first_run-one g.met.C.Compare.total _ _ c.requires.begins.left_ascending c.requires.begins.right_ascending (Right 1) Greater None _ _ refl c.requires.begins.stands
     (stops-here _ _ (c.if-stops.ensures refl) c.if-take.true)
 
 pub returns : goal.returns
 returns g c =
     let n = c.gallop-run.result.len in
-    first_run-first g.met.C.Compare.total _ _ c.requires.left_ascending c.requires.right_ascending (Right n) c.reversed.result _ 1 _ _
-    (first_run-right g.met.C.Compare.total _ _ c.requires.left_ascending c.requires.right_ascending
+    first_run-first g.met.C.Compare.total _ _ c.requires.begins.left_ascending c.requires.begins.right_ascending (Right n) c.reversed.result _ 1 _ _
+    (first_run-right g.met.C.Compare.total _ _ c.requires.begins.left_ascending c.requires.begins.right_ascending
     n c.a_at.result.now c.a_at.ensures c.gallop-run.ensures.bracket)
     (rw c.reversed.ensures
     (FirstsStand-right g.C.Compare.order _ _ g.met.C.Compare.total n c.a_at.result.now c.gallop-run.result.next c.a_at.ensures c.gallop-run.ensures.next))

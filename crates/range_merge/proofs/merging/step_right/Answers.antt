@@ -9,7 +9,7 @@ use Rattle.range_merge.proofs.merging.step_right.Goals as goal
 
 pub returns-then-not-stand-clause-stage : goal.returns-then-not-stand-clause-stage
 returns-then-not-stand-clause-stage g c =
-    Stage-none g.met.C.Compare.total c.args.state.now c.args.firsts _ _ _ c.requires.left_ascending c.requires.right_ascending c.requires.stands (omega arith) (omega arith)
+    Stage-none g.met.C.Compare.total c.args.state.now c.args.firsts _ _ _ c.requires.begins.left_ascending c.requires.begins.right_ascending c.requires.begins.stands (omega arith) (omega arith)
 
 pub returns-then-not-branch-clause-stage : goal.returns-then-not-branch-clause-stage
 returns-then-not-branch-clause-stage g c =
@@ -22,7 +22,7 @@ returns-clause-stage g c =
     let takes_is = rw c.ac.ensures at c.takes_b-take.ensures in
     let ran = rw (c.in_ok-advance_right.was, c.if-not-branch.false) at c.advance_right.ensures in
     rw (c.stand.ensures.0 c.if-not-stand.false)
-    (Stage-on g.met.C.Compare.total (Right c.right_run-run.result.len) takes_is c.right_run-run.ensures c.requires.left_ascending c.requires.right_ascending ran)
+    (Stage-on g.met.C.Compare.total (Right c.right_run-run.result.len) takes_is c.right_run-run.ensures c.requires.begins.left_ascending c.requires.begins.right_ascending ran)
 
 pub returns-then-not-stand-clause-leaves : goal.returns-then-not-stand-clause-leaves
 returns-then-not-stand-clause-leaves g c =

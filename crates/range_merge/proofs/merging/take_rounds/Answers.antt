@@ -9,7 +9,7 @@ use Rattle.range_merge.proofs.merging.take_rounds.Goals as goal
 
 pub loop-remaining-init : goal.loop-remaining-init
 loop-remaining-init g c = record {
-  stage = Stage-none g.met.C.Compare.total c.args.state.now c.args.firsts _ _ _ c.requires.left_ascending c.requires.right_ascending c.requires.stands (omega arith) (omega arith);
+  stage = Stage-none g.met.C.Compare.total c.args.state.now c.args.firsts _ _ _ c.requires.begins.left_ascending c.requires.begins.right_ascending c.requires.begins.stands (omega arith) (omega arith);
   fits = c.requires.fits;
   no_longer = omega arith;
   same = λ _. (refl, refl);
@@ -24,7 +24,7 @@ step_left-requires-clause-made g c =
       c.loop-remaining.invariant.stage.counted,
       c.loop-remaining.invariant.fits,
       ahead_of-le c.loop-remaining.firsts,
-      weight-le g.met.C.Compare.total _ _ c.requires.left_ascending c.requires.right_ascending,
+      weight-le g.met.C.Compare.total _ _ c.requires.begins.left_ascending c.requires.begins.right_ascending,
     )
 
 pub returns-in_default-clause-stage : goal.returns-in_default-clause-stage
@@ -39,7 +39,7 @@ step_right-requires-clause-made g c =
       one.counted,
       c.loop-remaining.invariant.fits,
       ahead_of-le c.in-On.next,
-      weight-le g.met.C.Compare.total _ _ c.requires.left_ascending c.requires.right_ascending,
+      weight-le g.met.C.Compare.total _ _ c.requires.begins.left_ascending c.requires.begins.right_ascending,
     )
 
 pub returns-in_default-2-clause-stage : goal.returns-in_default-2-clause-stage
@@ -56,7 +56,7 @@ steps_both-requires-clause-made g c =
       two.counted,
       c.loop-remaining.invariant.fits,
       ahead_of-le c.in-On-2.next,
-      weight-le g.met.C.Compare.total _ _ c.requires.left_ascending c.requires.right_ascending,
+      weight-le g.met.C.Compare.total _ _ c.requires.begins.left_ascending c.requires.begins.right_ascending,
     )
 
 pub returns-in_default-3-clause-stage : goal.returns-in_default-3-clause-stage

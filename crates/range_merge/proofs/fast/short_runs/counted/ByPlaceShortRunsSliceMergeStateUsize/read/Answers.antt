@@ -4,15 +4,15 @@ use Rattle.range_merge.proofs.fast.short_runs.counted.ByPlaceShortRunsSliceMerge
 pub returns-then-are_few-clause-goes_on : goal.returns-then-are_few-clause-goes_on
 returns-then-are_few-clause-goes_on g c = record {
   progress = Progress-none;
-  left_ascends = c.requires.left_ascending;
-  right_ascends = c.requires.right_ascending;
-  stands = c.requires.stands;
+  left_ascends = c.requires.begins.left_ascending;
+  right_ascends = c.requires.begins.right_ascending;
+  stands = c.requires.begins.stands;
 }
 
 pub returns-then-were_long-clause-goes_on : goal.returns-then-were_long-clause-goes_on
 returns-then-were_long-clause-goes_on g c = record {
   progress = Progress-none;
-  left_ascends = c.requires.left_ascending;
-  right_ascends = c.requires.right_ascending;
-  stands = c.requires.stands;
+  left_ascends = c.requires.begins.left_ascending;
+  right_ascends = c.requires.begins.right_ascending;
+  stands = c.requires.begins.stands;
 }
