@@ -7,6 +7,7 @@ ghost use Rattle.std.specs.declared.cmp.Ordering.TheVariants.{Less, Equal, Great
 ghost use Rattle.range_merge.specs.Boundaries.{IsAscending};
 ghost use Rattle.range_merge.specs.Counting.{AddsAtMost};
 ghost use Rattle.range_merge.specs.Runs.{digits};
+ghost use Rattle.range_merge.specs.Searching.{IsAnswer};
 
 use crate::compare::Compare;
 use crate::fast::branchless::{SELECTS, count_branchless, search_selecting};
@@ -77,15 +78,7 @@ fn search_longer<K, C: Compare<K>>(
 ) -> Result<usize, usize>
     requires ascending { IsAscending C.order items.now }
     requires made { C.count cmp.old < 2 ^ 127 }
-    ensures found_within { IfOk result (λ i. i < length items.now) }
-    ensures found { IfOk result (HoldsAt (λ y. C.order y key.now ≡ Equal) items.now) }
-    ensures within { IfErr result (λ i. i ≤ length items.now) }
-    ensures before { IfErr result (λ i.
-        AllWithin (λ y. is_le (C.order y key.now) ≡ true) items.now 0 i) }
-    ensures missing { IsTrue finds → IfErr result (λ i.
-        AllWithin (λ y. C.order y key.now ≡ Less) items.now 0 i) }
-    ensures from { IfErr result (λ i.
-        AllWithin (λ y. C.order y key.now ≡ Greater) items.now i (length items.now)) }
+    ensures answer { IsAnswer C.order items.now key.now finds result }
     ensures comparisons { AddsAtMost (C.count cmp.old) (C.count cmp.new)
         (digits (length items.now)) }
 {
@@ -141,13 +134,7 @@ pub(crate) fn search_by_halves<K, C: Compare<K>>(
 ) -> Result<usize, usize>
     requires ascending { IsAscending C.order items.now }
     requires made { C.count cmp.old < 2 ^ 127 }
-    ensures found_within { IfOk result (λ i. i < length items.now) }
-    ensures found { IfOk result (HoldsAt (λ y. C.order y key.now ≡ Equal) items.now) }
-    ensures missing_within { IfErr result (λ i. i ≤ length items.now) }
-    ensures missing_before { IfErr result (λ i.
-        AllWithin (λ y. C.order y key.now ≡ Less) items.now 0 i) }
-    ensures missing_from { IfErr result (λ i.
-        AllWithin (λ y. C.order y key.now ≡ Greater) items.now i (length items.now)) }
+    ensures answer { IsAnswer C.order items.now key.now true result }
     ensures comparisons { AddsAtMost (C.count cmp.old) (C.count cmp.new)
         (digits (length items.now)) }
 {

@@ -5,14 +5,11 @@
 //! step is a constant in the compiled code, and a level takes few instructions.
 //!
 //! Of a longer list whose items are read fast, each comparison selects the half in which it goes on.
-ghost use Rattle.std.specs.Prelude.{◌≡◌, ℕ, ◌+◌, ◌-◌, ◌*◌, ◌^◌, ◌<◌, ◌≤◌, length, min, true, IfOk, IfErr, HoldsAt, IsTrue};
-ghost use Rattle.std.specs.List.{AllWithin};
-ghost use Rattle.std.specs.Ordering.{is_le};
-ghost use Rattle.std.specs.declared.cmp.Ordering.TheVariants.{Less, Equal, Greater};
+ghost use Rattle.std.specs.Prelude.{◌≡◌, ℕ, ◌+◌, ◌-◌, ◌*◌, ◌^◌, ◌<◌, ◌≤◌, length, min};
 ghost use Rattle.range_merge.specs.Boundaries.{IsAscending};
 ghost use Rattle.range_merge.specs.Counting.{AddsAtMost};
 ghost use Rattle.range_merge.specs.Runs.{digits};
-ghost use Rattle.range_merge.specs.Searching.{IsNarrowed, IsSearched};
+ghost use Rattle.range_merge.specs.Searching.{IsAnswer, IsNarrowed, IsSearched};
 
 use crate::compare::Compare;
 use std::hint::select_unpredictable;
@@ -190,15 +187,7 @@ pub(crate) fn search_selecting<K, C: Compare<K>>(
 ) -> Result<usize, usize>
     requires ascending { IsAscending C.order items.now }
     requires made { C.count cmp.old < 2 ^ 127 }
-    ensures found_within { IfOk result (λ i. i < length items.now) }
-    ensures found { IfOk result (HoldsAt (λ y. C.order y key.now ≡ Equal) items.now) }
-    ensures within { IfErr result (λ i. i ≤ length items.now) }
-    ensures before { IfErr result (λ i.
-        AllWithin (λ y. is_le (C.order y key.now) ≡ true) items.now 0 i) }
-    ensures missing { IsTrue finds → IfErr result (λ i.
-        AllWithin (λ y. C.order y key.now ≡ Less) items.now 0 i) }
-    ensures from { IfErr result (λ i.
-        AllWithin (λ y. C.order y key.now ≡ Greater) items.now i (length items.now)) }
+    ensures answer { IsAnswer C.order items.now key.now finds result }
     ensures comparisons { AddsAtMost (C.count cmp.old) (C.count cmp.new)
         (digits (length items.now)) }
 {

@@ -16,14 +16,21 @@ loop-remaining-init g c = record {
 pub compare-how-requires : goal.compare-how-requires
 compare-how-requires g c = omega (arith, digits-le (length c.args.items.now), c.loop-remaining.invariant.at_most, c.requires.made)
 
-pub returns-then-finds-is_eq-clause-found : goal.returns-then-finds-is_eq-clause-found
-returns-then-finds-is_eq-clause-found g c =
+pub returns-then-finds-is_eq-clause-answer : goal.returns-then-finds-is_eq-clause-answer
+returns-then-finds-is_eq-clause-answer g c =
     let i = c.loop-remaining.front + (c.loop-remaining.remaining - c.loop-remaining.remaining / 2 - 1) in
-    let within : i < length c.args.items.now = omega (arith, c.loop-remaining.invariant.narrowed.1.within) in
+    let is_within : i < length c.args.items.now = omega (arith, c.loop-remaining.invariant.narrowed.1.within) in
     let test = and_parts c.args.finds c.is_eq.result c.if-finds-is_eq.true in
-    at g.C.Compare.order g.met.C.Compare.total c.args.items.now c.args.key.now c.requires.ascending
-    i c.index-items-at.result within c.index-items-at.is
-    Equal (Equal-from_test c.is_eq.result c.compare-how.result _ c.compare-how.ensures.answer c.is_eq.ensures test.1)
+    record {
+      found_within = is_within;
+      found = at g.C.Compare.order g.met.C.Compare.total c.args.items.now c.args.key.now c.requires.ascending
+          i c.index-items-at.result is_within c.index-items-at.is
+          Equal (Equal-from_test c.is_eq.result c.compare-how.result _ c.compare-how.ensures.answer c.is_eq.ensures test.1);
+      within = tt;
+      before = tt;
+      missing = λ _. tt;
+      from = tt;
+    }
 
 pub returns-then-finds-is_eq-clause-comparisons : goal.returns-then-finds-is_eq-clause-comparisons
 returns-then-finds-is_eq-clause-comparisons g c = record {
@@ -49,11 +56,14 @@ loop-remaining-preserved g c =
       at_most = omega (arith, digits-half (c.loop-remaining.remaining / 2) c.loop-remaining.remaining (omega arith) (omega arith), c.loop-remaining.invariant.at_most, c.compare-how.ensures.counted);
     }
 
-pub returns-clause-before : goal.returns-clause-before
-returns-clause-before g c = c.loop-remaining.invariant.narrowed.1.before
-
-pub returns-clause-missing : goal.returns-clause-missing
-returns-clause-missing g c finds = c.loop-remaining.invariant.narrowed.1.missing (c.loop-remaining.invariant.narrowed.2 finds)
-
-pub returns-clause-from : goal.returns-clause-from
-returns-clause-from g c k d low high = c.loop-remaining.invariant.narrowed.1.from k d (omega arith) high
+pub returns-clause-answer : goal.returns-clause-answer
+returns-clause-answer g c =
+    let narrowed = c.loop-remaining.invariant.narrowed in
+    record {
+      found_within = tt;
+      found = tt;
+      within = omega (arith, narrowed.1.within);
+      before = narrowed.1.before;
+      missing = λ finds. narrowed.1.missing (narrowed.2 finds);
+      from = λ k d low high. narrowed.1.from k d (omega arith) high;
+    }
