@@ -15,8 +15,8 @@ use crate::fast::short_runs::merge_reading;
 use crate::merge_state::over_slices::{Output, SliceMergeState};
 use crate::merging;
 use crate::operations::MergeOperation;
+use crate::searching::is_word;
 use std::alloc::AllocError;
-use std::mem::size_of_val;
 
 /// A state that writes the items that are taken into a borrowed slice, and counts them. It never
 /// stops the merge, takes no memory and never fails.
@@ -178,7 +178,7 @@ impl<K: Copy> Copier<K> for ByCopy {
 #[inline(always)]
 fn are_short<K>(items: &[K]) -> bool {
     match items.first() {
-        Some(item) => size_of_val(item) <= 8,
+        Some(item) => is_word(item),
         None => false,
     }
 }

@@ -10,8 +10,8 @@ use crate::generated::range_merge::fast::short_runs::merge_reading;
 use crate::generated::range_merge::merge_state::over_slices::{Output, SliceMergeState};
 use crate::generated::range_merge::merging;
 use crate::generated::range_merge::operations::MergeOperation;
+use crate::generated::range_merge::searching::is_word;
 use crate::support::AllocError;
-use core::mem::size_of_val;
 
 /// A state that writes the items that are taken into a borrowed slice, and counts them. It never
 /// stops the merge, takes no memory and never fails.
@@ -160,7 +160,7 @@ impl<K: Copy> Copier<K> for ByCopy {
 #[inline(always)]
 fn are_short<K>(items: &[K]) -> bool {
     match items.first() {
-        Some(item) => size_of_val(item) <= 8,
+        Some(item) => is_word(item),
         None => false,
     }
 }
