@@ -19,7 +19,7 @@ PLANTED = [
     # An operator, a constant, a literal, a text.
     ("range_merge/runs", "while low <= len / 2", "while low < len / 2", "fn doubled"),
     ("range_merge/runs", "2 * low - 1", "2 * low + 1", "fn doubled"),
-    ("range_merge/fast/rounds", "const READ_FROM: usize = 16;", "const READ_FROM: usize = 17;", "const READ_FROM"),
+    ("range_merge/fast/rounds", "const READ_FROM: usize = 24;", "const READ_FROM: usize = 25;", "const READ_FROM"),
     ("range_list/place", "Place = Place { chunk: 0, index: 0 }", "Place = Place { chunk: 0, index: 1 }", "const FRONT"),
     ("range_tracker/limit", "boundaries > limit", "boundaries > limit + 1", "fn within_limit"),
     ("range_collections/parse", '"a comma or the end"', '"a comma or the  end"', "Display for Expected / fn fmt"),
@@ -44,7 +44,7 @@ PLANTED = [
     ("range_merge/operations", "#[derive(Clone, Copy, Debug, PartialEq, Eq)]\npub struct Connective", "pub struct Connective", "struct Connective"),
     ("range_merge/runs", "\nfn doubled", "\npub fn doubled", "fn doubled"),
     # An item that is added, dropped, doubled, or moved to another type; a field, and a variant.
-    ("range_merge/fast/rounds", "const READ_FROM: usize = 16;", "const READ_FROM: usize = 16;\nfn read_from() -> usize {\n    READ_FROM\n}\n", "fn read_from"),
+    ("range_merge/fast/rounds", "const READ_FROM: usize = 24;", "const READ_FROM: usize = 24;\nfn read_from() -> usize {\n    READ_FROM\n}\n", "fn read_from"),
     ("range_merge/runs", "impl<S: MergeState> Indexed<S::Item> for LeftOf", "impl<S: MergeState> Drop for RightOf<'_, S> {}\nimpl<S: MergeState> Indexed<S::Item> for LeftOf", "Drop for RightOf < '_ , S >"),
     ("range_merge/merging", "    /// The state stopped.\n    Stopped,", "    Stopped,\n    Lost,", "enum Went"),
     ("range_merge/runs", "    low: usize,\n    high: usize,\n    next: Option<Ordering>,\n}", "    low: usize,\n    next: Option<Ordering>,\n}", "struct Bracket"),

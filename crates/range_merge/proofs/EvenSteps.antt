@@ -15,10 +15,10 @@ use Rattle.std.specs.declared.cmp.Ordering.TheVariants.{Less, Equal, Greater}
 use Rattle.range_merge.specs.Boundaries.{IsAscending, is_odd}
 use Rattle.range_merge.specs.Connective.{Table, differ}
 use Rattle.range_merge.specs.Copies.{IsAppended, items_if}
-use Rattle.range_merge.specs.Singly.{odd_from, lefts_of, rights_of, IsLong, Place, place, Then, IsStep, AreFour, IsLooked, AreSixteen}
+use Rattle.range_merge.specs.ShortRuns.{odd_from, lefts_of, rights_of, IsLong, Place, place, Then, IsStep, AreFour, IsLooked, AreSixteen}
 use Rattle.range_merge.specs.OneRun.{FirstsStand, one_of_run, takes}
 use Rattle.range_merge.proofs.Parity.{differ-comm, differ-false, is_odd-add}
-use Rattle.range_merge.proofs.SinglySteps.{FirstsStand-of, IsAppended-behind, Reads, Reads-looked, Reads-more, odd-lefts, slice_get-drop, take-first, take-window}
+use Rattle.range_merge.proofs.CopySteps.{FirstsStand-of, IsAppended-behind, Reads, Reads-looked, Reads-more, odd-lefts, slice_get-drop, take-first, take-window}
 
 -- two changes from the same, or both to it
 either : (x y z : Bool) → not (beq (differ x y) (differ x z)) ≡ differ y z

@@ -34,11 +34,11 @@ pub mod OwnOrCopies
 pub mod Apart
 pub mod Filled
 pub mod ShortRuns
-pub mod SinglySteps
+pub mod CopySteps
 pub mod EvenSteps
 pub mod Rounds
 pub mod ReadInto
 pub mod Relative
-pub mod ByPlaceSteps
+pub mod CountSteps
 pub mod Works
 pub mod Overwritten

@@ -10,7 +10,7 @@ use Rattle.range_merge.specs.Connective.{Table, differ}
 use Rattle.range_merge.specs.Copies.{AreCopies}
 use Rattle.range_merge.specs.Owners.{Owner, left_only, right_only, shared, owners}
 use Rattle.range_merge.specs.Stages.{Progress}
-use Rattle.range_merge.specs.Singly.{table_from}
+use Rattle.range_merge.specs.ShortRuns.{table_from}
 use Rattle.range_merge.specs.Walk.{walk}
 use Rattle.range_merge.proofs.CopiesLemmas.{AreCopies-items}
 use Rattle.range_merge.proofs.Parity.{differ-false, differ-not_right}

@@ -11,7 +11,7 @@ use Rattle.range_merge.specs.Runs.{digits, run_len, weight_of}
 use Rattle.range_merge.specs.OneRun.{one_of_run}
 use Rattle.range_merge.specs.declared.runs.Run.{Run}
 use Rattle.range_merge.specs.declared.runs.Run.TheVariants.{Left, Right, Both}
-use Rattle.range_merge.specs.Singly.{lefts_of, rights_of, IsLong}
+use Rattle.range_merge.specs.ShortRuns.{lefts_of, rights_of, IsLong}
 use Rattle.range_merge.proofs.Digits.{digits-mono, digits-pow, weight_of-cons}
 
 -- a run that is being read, before the runs of what is unread: it joins the first where that is of

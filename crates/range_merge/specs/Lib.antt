@@ -14,6 +14,6 @@ pub mod Copies
 pub mod Building
 pub mod Buffers
 pub mod Filling
-pub mod Singly
+pub mod ShortRuns
 pub mod Reading
-pub mod ByPlace
+pub mod Counted

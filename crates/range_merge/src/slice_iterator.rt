@@ -1,6 +1,6 @@
 //! A slice that is read from its front.
 ghost use Rattle.std.specs.Prelude.{◌≡◌, ◌-◌, ◌≤◌, List, length, take, drop, IfSome};
-ghost use Rattle.range_merge.specs.Singly.{odd_from};
+ghost use Rattle.range_merge.specs.ShortRuns.{odd_from};
 ghost use Rattle.std.specs.Iterator.{YieldsFirstRef, item_count};
 
 use std::marker::Model;

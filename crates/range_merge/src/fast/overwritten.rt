@@ -6,12 +6,12 @@ ghost use Rattle.range_merge.specs.Changes.{changes};
 ghost use Rattle.range_merge.specs.Copies.{AreCopies};
 ghost use Rattle.range_merge.specs.Counting.{AddsAtMost};
 ghost use Rattle.range_merge.specs.Runs.{weight};
-ghost use Rattle.range_merge.specs.Singly.{IsRead};
+ghost use Rattle.range_merge.specs.ShortRuns.{IsRead};
 ghost use Rattle.range_merge.specs.Reading.{CanRead};
 
 use crate::compare::{Compare, Copier, Done};
-use crate::fast::short_runs::copied::read_singly;
-use crate::fast::short_runs::into_output::{Room, Singly};
+use crate::fast::short_runs::copied::copy_runs;
+use crate::fast::short_runs::into_output::{CopyingReader, Room};
 use crate::fast::short_runs::{ReadSoFar, merge_reading};
 use crate::merge_state::buffer::take_back;
 use crate::merge_state::over_slices::{COPIED_AT_ONCE, Output, SliceMergeState};
@@ -120,7 +120,7 @@ fn with_changes<'o, K: Drop, P: Copier<K>, O: MergeOperation, C: Compare<K>>(
         copier,
     );
     // Nothing is lost: there is room for all, and no copy fails.
-    let _ = match Singly::of(copier) {
+    let _ = match CopyingReader::of(copier) {
         Some(mut reader) => merge_reading(&mut state, op, cmp, &mut reader),
         None => merging::merge(&mut state, op, cmp),
     };
@@ -152,7 +152,7 @@ fn read_over<K: Drop, P: Copier<K>, O: MergeOperation, C: Compare<K>>(
     ensures made { C.count cmp ≤ C.count result.cmp }
 {
     let mut cmp = cmp;
-    let answer = read_singly(a, b, from, op, by, &mut cmp, out, false);
+    let answer = copy_runs(a, b, from, op, by, &mut cmp, out, false);
     Done { cmp, answer }
 }
 

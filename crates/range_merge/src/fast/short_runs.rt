@@ -7,7 +7,7 @@ ghost use Rattle.range_merge.specs.Counting.{AddsAtMost};
 ghost use Rattle.range_merge.specs.Owners.{owners};
 ghost use Rattle.range_merge.specs.Stages.{Begins, GoesOn, IfOn, Stage};
 ghost use Rattle.range_merge.specs.Runs.{weight};
-ghost use Rattle.range_merge.specs.Singly.{odd_from};
+ghost use Rattle.range_merge.specs.ShortRuns.{odd_from};
 ghost use Rattle.range_merge.specs.OneRun.{FirstsStand};
 
 pub(crate) mod copied;

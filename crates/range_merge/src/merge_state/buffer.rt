@@ -10,7 +10,7 @@ ghost use Rattle.range_merge.specs.Counting.{AddsAtMost};
 ghost use Rattle.range_merge.specs.Runs.{weight};
 
 use crate::compare::{Compare, Copier};
-use crate::fast::short_runs::into_output::Singly;
+use crate::fast::short_runs::into_output::CopyingReader;
 use crate::fast::short_runs::merge_reading;
 use crate::merge_state::over_slices::{Output, SliceMergeState};
 use crate::merging;
@@ -117,7 +117,7 @@ impl<'a, 'o, K: Copy> BufferMergeState<'a, 'o, K> {
             are_short: are_short(a),
         };
         // Nothing is lost: the buffer counts also what it has no room for.
-        if let Some(mut reader) = Singly::of(&copier) {
+        if let Some(mut reader) = CopyingReader::of(&copier) {
             let _ = merge_reading(&mut state, op, cmp, &mut reader);
             return state.result();
         }

@@ -6,7 +6,7 @@ ghost use Rattle.range_merge.specs.Counting.{AddsAtMost};
 ghost use Rattle.range_merge.specs.Runs.{weight};
 
 use crate::compare::Compare;
-use crate::fast::short_runs::counted::ByPlace;
+use crate::fast::short_runs::counted::CountingReader;
 use crate::fast::short_runs::merge_reading;
 use crate::merge_state::over_slices::{Output, SliceMergeState};
 use crate::merging;
@@ -50,7 +50,7 @@ impl<'a, K> CountMergeState<'a, K> {
         ensures comparisons { AddsAtMost (C.count cmp.old) (C.count cmp.new) (2 * weight C.order a.now b.now) }
     {
         let mut state = Self::new(a, b);
-        let mut reader = ByPlace::of(&state);
+        let mut reader = CountingReader::of(&state);
         // Nothing is lost: a count never stops a merge, and never fails.
         let _ = merge_reading(&mut state, op, cmp, &mut reader);
         state.result()

@@ -11,7 +11,7 @@ ghost use Rattle.range_merge.specs.Runs.{weight};
 ghost use Rattle.range_merge.specs.States.{HasRoomForAll};
 
 use crate::compare::{Compare, Copier};
-use crate::fast::short_runs::into_output::Singly;
+use crate::fast::short_runs::into_output::CopyingReader;
 use crate::fast::short_runs::merge_reading;
 use crate::merge_state::over_slices::{COPIED_AT_ONCE, Output, SliceMergeState};
 use crate::merging;
@@ -167,7 +167,7 @@ impl<'a, K: MadeWith<Global> + Drop, P: Copier<K>, const M: usize> SmallVecMerge
                 at_first: 0,
             },
         );
-        let _went_through = match Singly::of(copier) {
+        let _went_through = match CopyingReader::of(copier) {
             Some(mut reader) => merge_reading(&mut state, op, cmp, &mut reader)?,
             None => merging::merge(&mut state, op, cmp)?,
         };

@@ -8,7 +8,7 @@ ghost use Rattle.range_merge.specs.Boundaries.{IsAscending, is_odd};
 ghost use Rattle.range_merge.specs.Connective.{differ};
 ghost use Rattle.range_merge.specs.Copies.{IsAppended, items_if};
 ghost use Rattle.range_merge.specs.Runs.{weight};
-ghost use Rattle.range_merge.specs.Singly.{is_answer, table_from, lefts_of, rights_of, place, IsLong, IsRead, AreFour, IsLooked, AreSixteen};
+ghost use Rattle.range_merge.specs.ShortRuns.{is_answer, table_from, lefts_of, rights_of, place, IsLong, IsRead, AreFour, IsLooked, AreSixteen};
 ghost use Rattle.range_merge.specs.OneRun.{FirstsStand, one_of_run, takes};
 
 use crate::compare::{Compare, Copier};
@@ -347,7 +347,7 @@ fn has_sixteen(lefts: usize, rights: usize, room: usize) -> bool
 /// It looks at the length of a run after each four steps. So a run that is long has four to seven
 /// items that were read; else the last run has at most three.
 #[inline(always)]
-pub(crate) fn read_singly<K: Drop, P: Copier<K>, O: MergeOperation, C: Compare<K>>(
+pub(crate) fn copy_runs<K: Drop, P: Copier<K>, O: MergeOperation, C: Compare<K>>(
     a: &[K],
     b: &[K],
     from: ReadSoFar,

@@ -6,12 +6,12 @@
 //! the answer does.
 ghost use Rattle.std.specs.Prelude.{◌≡◌, ◌+◌, ◌*◌, ◌^◌, ◌<◌, ◌≤◌, false, length, drop, Some, ◌-◌, IsTrue, if◌then◌else◌};
 ghost use Rattle.range_merge.specs.Boundaries.{IsAscending, is_odd};
-ghost use Rattle.range_merge.specs.ByPlace.{IsCounted};
+ghost use Rattle.range_merge.specs.Counted.{IsCounted};
 ghost use Rattle.range_merge.specs.Connective.{differ};
 ghost use Rattle.range_merge.specs.Stages.{Progress};
 ghost use Rattle.range_merge.specs.Reading.{CostsAtMost};
 ghost use Rattle.range_merge.specs.Runs.{weight};
-ghost use Rattle.range_merge.specs.Singly.{table_from, is_answer, lefts_of, rights_of, AreFourCounted};
+ghost use Rattle.range_merge.specs.ShortRuns.{table_from, is_answer, lefts_of, rights_of, AreFourCounted};
 ghost use Rattle.range_merge.specs.OneRun.{FirstsStand, one_of_run, takes};
 
 use crate::compare::{Compare, Done, Work};
@@ -26,18 +26,18 @@ use std::cmp::Ordering;
 
 /// Reads short runs by place, where items are read fast.
 #[derive(Drop)]
-pub(crate) struct ByPlace {
+pub(crate) struct CountingReader {
     rounds: Rounds,
     // Whether there are many items, each a word at most: else it mostly points to what is compared,
     // and a run's comparisons cost more than a branch.
     is_fast: bool,
 }
 
-impl ByPlace {
+impl CountingReader {
     /// A reader for the items of a state.
     #[inline(always)]
     pub(crate) fn of<S: MergeState>(state: &S) -> Self {
-        ByPlace {
+        CountingReader {
             rounds: Rounds::new(),
             is_fast: !are_few(state) && is_word(state.a_at(0)),
         }
@@ -45,7 +45,7 @@ impl ByPlace {
 }
 
 impl<'a, K, O: MergeOperation, C: Compare<K>> ShortRuns<SliceMergeState<'a, K, usize>, O, C>
-    for ByPlace {
+    for CountingReader {
     #[inline(always)]
     fn rounds(&self) -> Option<u32> {
         if self.is_fast {
@@ -178,7 +178,7 @@ fn read_apart<K, O: MergeOperation, C: Compare<K>>(
     ensures at_most { result.answer.k ≤ result.answer.i + result.answer.j }
 {
     let mut cmp = cmp;
-    let answer = read_by_place(a, b, next, op, &mut cmp);
+    let answer = count_runs(a, b, next, op, &mut cmp);
     Done { cmp, answer }
 }
 
@@ -282,7 +282,7 @@ fn beyond(start: ReadSoFar, at: ReadSoFar) -> ReadSoFar
 ///
 /// It looks at the length of a run after each four steps, as a read item by item does.
 #[inline(always)]
-pub(crate) fn read_by_place<K, O: MergeOperation, C: Compare<K>>(
+pub(crate) fn count_runs<K, O: MergeOperation, C: Compare<K>>(
     a: &[K],
     b: &[K],
     next: Ordering,

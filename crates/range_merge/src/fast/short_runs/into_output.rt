@@ -2,7 +2,7 @@
 ghost use Rattle.std.specs.Prelude.{◌≡◌, ℕ, ◌+◌, ◌*◌, ◌^◌, ◌<◌, ◌≤◌, length, take, drop, Some, ⊤};
 ghost use Rattle.range_merge.specs.Boundaries.{IsAscending};
 ghost use Rattle.range_merge.specs.Runs.{weight};
-ghost use Rattle.range_merge.specs.Singly.{odd_from, IsRead};
+ghost use Rattle.range_merge.specs.ShortRuns.{odd_from, IsRead};
 ghost use Rattle.range_merge.specs.Reading.{CanRead, CostsAtMost, IsReadInto};
 ghost use Rattle.std.specs.Vec.{vec_capacity};
 ghost use Rattle.range_merge.specs.Stages.{Progress};
@@ -10,7 +10,7 @@ ghost use Rattle.range_merge.specs.OneRun.{FirstsStand};
 
 use crate::compare::{Compare, Copier, Done, Work};
 use crate::fast::rounds::{Rounds, are_few};
-use crate::fast::short_runs::copied::{copied, read_singly};
+use crate::fast::short_runs::copied::{copied, copy_runs};
 use crate::fast::short_runs::{ReadSoFar, ShortRuns};
 use crate::merge_state::MergeState;
 use crate::merge_state::buffer::{Buffer, ByCopy};
@@ -91,7 +91,7 @@ impl<'r, K, By, P: Copier<K>, O: MergeOperation, C: Compare<K>, L: Room<K, By, P
 
 /// Reads short runs of plain data, item by item.
 #[derive(Drop)]
-pub(crate) struct Singly<'p, K, P: Copier<K>> {
+pub(crate) struct CopyingReader<'p, K, P: Copier<K>> {
     copier: &'p P,
     // For how many items room is made before a read.
     room: usize,
@@ -99,7 +99,7 @@ pub(crate) struct Singly<'p, K, P: Copier<K>> {
     of: PhantomData<K>,
 }
 
-impl<'p, K, P: Copier<K>> Model for Singly<'p, K, P> {
+impl<'p, K, P: Copier<K>> Model for CopyingReader<'p, K, P> {
     ghost use Rattle.std.specs.Prelude.{◌≡◌, ⊤};
 
     ghost Value = { ⊤ };
@@ -112,14 +112,14 @@ impl<'p, K, P: Copier<K>> Model for Singly<'p, K, P> {
 // How many items room is made for at first.
 const ROOM: usize = 128;
 
-impl<'p, K, P: Copier<K>> Singly<'p, K, P> {
+impl<'p, K, P: Copier<K>> CopyingReader<'p, K, P> {
     /// A reader for items that are plain data.
     #[inline(always)]
     pub(crate) fn of(copier: &'p P) -> Option<Self> {
         if !copier.is_plain() {
             return None;
         }
-        Some(Singly {
+        Some(CopyingReader {
             copier,
             room: ROOM,
             rounds: Rounds::new(),
@@ -148,7 +148,7 @@ impl<
     L: Room<K, By, P, O, C>,
     O: MergeOperation,
     C: Compare<K>,
-> ShortRuns<SliceMergeState<'a, K, L, By>, O, C> for Singly<'p, K, P> {
+> ShortRuns<SliceMergeState<'a, K, L, By>, O, C> for CopyingReader<'p, K, P> {
     #[inline(always)]
     fn rounds(&self) -> Option<u32> {
         Some(self.rounds.count())
@@ -311,7 +311,7 @@ fn read_into<K: Drop, P: Copier<K>, O: MergeOperation, C: Compare<K>>(
     let kept = list.len();
     let filled = room.min(list.capacity() - kept);
     fill(&mut list, filled, &a[from.i], by);
-    let at = read_singly(
+    let at = copy_runs(
         a,
         b,
         from,
@@ -384,6 +384,6 @@ fn read_behind<K: Copy, O: MergeOperation, C: Compare<K>>(
     ensures made { C.count cmp ≤ C.count result.cmp }
 {
     let mut cmp = cmp;
-    let answer = read_singly(a, b, from, op, copier, &mut cmp, out, true);
+    let answer = copy_runs(a, b, from, op, copier, &mut cmp, out, true);
     Done { cmp, answer }
 }

@@ -2,8 +2,8 @@
 //! A merge of plain data that writes over what a slice holds, from its front.
 
 use crate::generated::range_merge::compare::{Compare, Copier, Done};
-use crate::generated::range_merge::fast::short_runs::copied::read_singly;
-use crate::generated::range_merge::fast::short_runs::into_output::{Room, Singly};
+use crate::generated::range_merge::fast::short_runs::copied::copy_runs;
+use crate::generated::range_merge::fast::short_runs::into_output::{CopyingReader, Room};
 use crate::generated::range_merge::fast::short_runs::{merge_reading, ReadSoFar};
 use crate::generated::range_merge::merge_state::buffer::take_back;
 use crate::generated::range_merge::merge_state::over_slices::{
@@ -85,7 +85,7 @@ fn with_changes<'o, K, P: Copier<K>, O: MergeOperation, C: Compare<K>>(
         copier,
     );
     // Nothing is lost: there is room for all, and no copy fails.
-    let _ = match Singly::of(copier) {
+    let _ = match CopyingReader::of(copier) {
         Some(mut reader) => merge_reading(&mut state, op, cmp, &mut reader),
         None => merging::merge(&mut state, op, cmp),
     };
@@ -104,7 +104,7 @@ fn read_over<K, P: Copier<K>, O: MergeOperation, C: Compare<K>>(
     by: &P,
 ) -> Done<C, ReadSoFar> {
     let mut cmp = cmp;
-    let answer = read_singly(a, b, from, op, by, &mut cmp, out, false);
+    let answer = copy_runs(a, b, from, op, by, &mut cmp, out, false);
     Done { cmp, answer }
 }
 

@@ -5,7 +5,7 @@
 //! within the slice, the slice begins with what was taken, and after that it is as it was.
 
 use crate::generated::range_merge::compare::{Compare, Copier};
-use crate::generated::range_merge::fast::short_runs::into_output::Singly;
+use crate::generated::range_merge::fast::short_runs::into_output::CopyingReader;
 use crate::generated::range_merge::fast::short_runs::merge_reading;
 use crate::generated::range_merge::merge_state::over_slices::{Output, SliceMergeState};
 use crate::generated::range_merge::merging;
@@ -116,7 +116,7 @@ impl<'a, 'o, K: Copy> BufferMergeState<'a, 'o, K> {
             are_short: are_short(a),
         };
         // Nothing is lost: the buffer counts also what it has no room for.
-        if let Some(mut reader) = Singly::of(&copier) {
+        if let Some(mut reader) = CopyingReader::of(&copier) {
             let _ = merge_reading(&mut state, op, cmp, &mut reader);
             return state.result();
         }

@@ -2,7 +2,7 @@
 //! A merge that only counts what is taken.
 
 use crate::generated::range_merge::compare::Compare;
-use crate::generated::range_merge::fast::short_runs::counted::ByPlace;
+use crate::generated::range_merge::fast::short_runs::counted::CountingReader;
 use crate::generated::range_merge::fast::short_runs::merge_reading;
 use crate::generated::range_merge::merge_state::over_slices::{Output, SliceMergeState};
 use crate::generated::range_merge::merging;
@@ -55,7 +55,7 @@ impl<'a, K> CountMergeState<'a, K> {
         cmp: &mut C,
     ) -> usize {
         let mut state = Self::new(a, b);
-        let mut reader = ByPlace::of(&state);
+        let mut reader = CountingReader::of(&state);
         // Nothing is lost: a count never stops a merge, and never fails.
         let _ = merge_reading(&mut state, op, cmp, &mut reader);
         state.result()

@@ -2,7 +2,7 @@
 //! A merge that copies what is taken into a list.
 
 use crate::generated::range_merge::compare::{Compare, Copier};
-use crate::generated::range_merge::fast::short_runs::into_output::Singly;
+use crate::generated::range_merge::fast::short_runs::into_output::CopyingReader;
 use crate::generated::range_merge::fast::short_runs::merge_reading;
 use crate::generated::range_merge::merge_state::over_slices::{
     Output, SliceMergeState, COPIED_AT_ONCE,
@@ -97,7 +97,7 @@ impl<'a, K, P: Copier<K>, const M: usize> SmallVecMergeState<'a, K, P, M> {
         cmp: &mut C,
     ) -> Result<Vec<K>, AllocError> {
         let mut state = SliceMergeState::over(a, b, list, Copying { copier });
-        let _went_through = match Singly::of(copier) {
+        let _went_through = match CopyingReader::of(copier) {
             Some(mut reader) => merge_reading(&mut state, op, cmp, &mut reader)?,
             None => merging::merge(&mut state, op, cmp)?,
         };

@@ -217,7 +217,7 @@ fn has_sixteen(lefts: usize, rights: usize, room: usize) -> bool {
 /// It looks at the length of a run after each four steps. So a run that is long has four to seven
 /// items that were read; else the last run has at most three.
 #[inline(always)]
-pub(crate) fn read_singly<K, P: Copier<K>, O: MergeOperation, C: Compare<K>>(
+pub(crate) fn copy_runs<K, P: Copier<K>, O: MergeOperation, C: Compare<K>>(
     a: &[K],
     b: &[K],
     from: ReadSoFar,

@@ -17,18 +17,18 @@ use crate::generated::range_merge::searching::is_word;
 use core::cmp::Ordering;
 
 /// Reads short runs by place, where items are read fast.
-pub(crate) struct ByPlace {
+pub(crate) struct CountingReader {
     rounds: Rounds,
     // Whether there are many items, each a word at most: else it mostly points to what is compared,
     // and a run's comparisons cost more than a branch.
     is_fast: bool,
 }
 
-impl ByPlace {
+impl CountingReader {
     /// A reader for the items of a state.
     #[inline(always)]
     pub(crate) fn of<S: MergeState>(state: &S) -> Self {
-        ByPlace {
+        CountingReader {
             rounds: Rounds::new(),
             is_fast: !are_few(state) && is_word(state.a_at(0)),
         }
@@ -36,7 +36,7 @@ impl ByPlace {
 }
 
 impl<'a, K, O: MergeOperation, C: Compare<K>> ShortRuns<SliceMergeState<'a, K, usize>, O, C>
-    for ByPlace
+    for CountingReader
 {
     #[inline(always)]
     fn rounds(&self) -> Option<u32> {
@@ -124,7 +124,7 @@ fn read_apart<K, O: MergeOperation, C: Compare<K>>(
     cmp: C,
 ) -> Done<C, ReadSoFar> {
     let mut cmp = cmp;
-    let answer = read_by_place(a, b, next, op, &mut cmp);
+    let answer = count_runs(a, b, next, op, &mut cmp);
     Done { cmp, answer }
 }
 
@@ -182,7 +182,7 @@ fn beyond(start: ReadSoFar, at: ReadSoFar) -> ReadSoFar {
 ///
 /// It looks at the length of a run after each four steps, as a read item by item does.
 #[inline(always)]
-pub(crate) fn read_by_place<K, O: MergeOperation, C: Compare<K>>(
+pub(crate) fn count_runs<K, O: MergeOperation, C: Compare<K>>(
     a: &[K],
     b: &[K],
     next: Ordering,

@@ -3,7 +3,7 @@
 
 use crate::generated::range_merge::compare::{Compare, Copier, Done, Work};
 use crate::generated::range_merge::fast::rounds::{are_few, Rounds};
-use crate::generated::range_merge::fast::short_runs::copied::{copied, read_singly};
+use crate::generated::range_merge::fast::short_runs::copied::{copied, copy_runs};
 use crate::generated::range_merge::fast::short_runs::{ReadSoFar, ShortRuns};
 use crate::generated::range_merge::merge_state::buffer::{Buffer, ByCopy};
 use crate::generated::range_merge::merge_state::over_slices::{Output, SliceMergeState};
@@ -63,7 +63,7 @@ impl<'r, K, By, P: Copier<K>, O: MergeOperation, C: Compare<K>, L: Room<K, By, P
 }
 
 /// Reads short runs of plain data, item by item.
-pub(crate) struct Singly<'p, K, P: Copier<K>> {
+pub(crate) struct CopyingReader<'p, K, P: Copier<K>> {
     copier: &'p P,
     // For how many items room is made before a read.
     room: usize,
@@ -74,14 +74,14 @@ pub(crate) struct Singly<'p, K, P: Copier<K>> {
 // How many items room is made for at first.
 const ROOM: usize = 128;
 
-impl<'p, K, P: Copier<K>> Singly<'p, K, P> {
+impl<'p, K, P: Copier<K>> CopyingReader<'p, K, P> {
     /// A reader for items that are plain data.
     #[inline(always)]
     pub(crate) fn of(copier: &'p P) -> Option<Self> {
         if !copier.is_plain() {
             return None;
         }
-        Some(Singly {
+        Some(CopyingReader {
             copier,
             room: ROOM,
             rounds: Rounds::new(),
@@ -102,7 +102,7 @@ impl<'p, K, P: Copier<K>> Singly<'p, K, P> {
 }
 
 impl<'a, 'p, K, P: Copier<K>, By, L: Room<K, By, P, O, C>, O: MergeOperation, C: Compare<K>>
-    ShortRuns<SliceMergeState<'a, K, L, By>, O, C> for Singly<'p, K, P>
+    ShortRuns<SliceMergeState<'a, K, L, By>, O, C> for CopyingReader<'p, K, P>
 {
     #[inline(always)]
     fn rounds(&self) -> Option<u32> {
@@ -233,7 +233,7 @@ fn read_into<K, P: Copier<K>, O: MergeOperation, C: Compare<K>>(
     let kept = list.len();
     let filled = room.min(list.capacity() - kept);
     fill(&mut list, filled, &a[from.i], by);
-    let at = read_singly(
+    let at = copy_runs(
         a,
         b,
         from,
@@ -286,6 +286,6 @@ fn read_behind<K: Copy, O: MergeOperation, C: Compare<K>>(
     out: &mut [K],
 ) -> Done<C, ReadSoFar> {
     let mut cmp = cmp;
-    let answer = read_singly(a, b, from, op, copier, &mut cmp, out, true);
+    let answer = copy_runs(a, b, from, op, copier, &mut cmp, out, true);
     Done { cmp, answer }
 }

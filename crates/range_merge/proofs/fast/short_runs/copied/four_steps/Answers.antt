@@ -1,7 +1,7 @@
 use Rattle.std.proofs.Common.{take, false}
-use Rattle.range_merge.specs.Singly.{place}
+use Rattle.range_merge.specs.ShortRuns.{place}
 use Rattle.range_merge.proofs.EvenSteps.{IsStep-of}
-use Rattle.range_merge.proofs.SinglySteps.{behind-four}
+use Rattle.range_merge.proofs.CopySteps.{behind-four}
 use Rattle.range_merge.proofs.fast.short_runs.copied.four_steps.Goals as goal
 
 pub returns-clause-steps : goal.returns-clause-steps

@@ -1,8 +1,8 @@
 use Rattle.std.proofs.Common.{◌≡◌, ℕ, ◌+◌, ◌-◌, ◌%◌, ◌≤◌, List, length, take, drop, false, refl, sym, ap, ◌∙◌, arith}
 use Rattle.std.proofs.lemmas.List.{length-drop, length-take-le}
-use Rattle.range_merge.specs.Singly.{place}
+use Rattle.range_merge.specs.ShortRuns.{place}
 use Rattle.range_merge.proofs.EvenSteps.{AreSixteen-room, few-even, window-item}
-use Rattle.range_merge.proofs.SinglySteps.{behind-four, behind-window, slice_get-take}
+use Rattle.range_merge.proofs.CopySteps.{behind-four, behind-window, slice_get-take}
 use Rattle.range_merge.proofs.fast.short_runs.copied.sixteen_steps.Goals as goal
 
 length-room : {K : Type 0} (k : ℕ) (out : List K) → k + 16 ≤ length out → length (take (k + 16 - k) (drop k out)) ≡ 16

@@ -3,7 +3,7 @@ use mir.Val.{bool_byte}
 use Rattle.std.proofs.lemmas.List.{take-set}
 use Rattle.range_merge.specs.Boundaries.{is_odd}
 use Rattle.range_merge.proofs.EvenSteps.{odd-then}
-use Rattle.range_merge.proofs.SinglySteps.{IsAppended-of, IsAppended-set, IsAppended-written, at-most_read, behind-set, byte-le, byte-ge, picked, written}
+use Rattle.range_merge.proofs.CopySteps.{IsAppended-of, IsAppended-set, IsAppended-written, at-most_read, behind-set, byte-le, byte-ge, picked, written}
 use Rattle.range_merge.proofs.fast.short_runs.copied.step.Goals as goal
 
 pub returns-clause-put : goal.returns-clause-put

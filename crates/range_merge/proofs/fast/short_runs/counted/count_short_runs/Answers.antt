@@ -1,5 +1,5 @@
 use Rattle.range_merge.specs.Boundaries.{is_odd}
-use Rattle.range_merge.proofs.ByPlaceSteps.{Progress-counted}
+use Rattle.range_merge.proofs.CountSteps.{Progress-counted}
 use Rattle.range_merge.proofs.Parity.{unequal-differ}
 use Rattle.range_merge.proofs.fast.short_runs.counted.count_short_runs.Goals as goal
 

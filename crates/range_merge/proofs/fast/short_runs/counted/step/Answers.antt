@@ -1,7 +1,7 @@
 use Rattle.std.proofs.Common.{◌+◌, ap, ◌∙◌}
 use mir.Val.{bool_byte}
-use Rattle.range_merge.proofs.ByPlaceSteps.{counted-if}
-use Rattle.range_merge.proofs.SinglySteps.{byte-le, byte-ge, is_taken}
+use Rattle.range_merge.proofs.CountSteps.{counted-if}
+use Rattle.range_merge.proofs.CopySteps.{byte-le, byte-ge, is_taken}
 use Rattle.range_merge.proofs.fast.short_runs.counted.step.Goals as goal
 
 pub returns-clause-taken : goal.returns-clause-taken

@@ -1,5 +1,5 @@
 use Rattle.std.proofs.Common.{◌≡◌, drop}
-use Rattle.range_merge.specs.Singly.{odd_from}
+use Rattle.range_merge.specs.ShortRuns.{odd_from}
 use Rattle.range_merge.proofs.EvenSteps.{first-unread, odd-from, rest-read}
 use Rattle.range_merge.proofs.fast.short_runs.into_output.read_short_runs.Goals as goal
 

@@ -1,6 +1,6 @@
 use Rattle.std.proofs.Common.{arith}
-use Rattle.range_merge.specs.Singly.{table_from}
-use Rattle.range_merge.proofs.ByPlaceSteps.{Counts-start, Counts-counted}
+use Rattle.range_merge.specs.ShortRuns.{table_from}
+use Rattle.range_merge.proofs.CountSteps.{Counts-start, Counts-counted}
 use Rattle.range_merge.proofs.fast.short_runs.counted.CountingWork.undone.Goals as goal
 
 pub returns : goal.returns

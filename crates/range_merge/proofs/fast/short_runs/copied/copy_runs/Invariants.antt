@@ -1,7 +1,7 @@
 use Rattle.std.proofs.Common.{◌≡◌, ℕ, ◌+◌, ◌≤◌, true, false, length, take, drop, slice_get, Some}
 use Rattle.range_merge.specs.Boundaries.{is_odd}
-use Rattle.range_merge.proofs.SinglySteps.{Reads}
-use Rattle.range_merge.proofs.fast.short_runs.copied.read_singly.Given as goal
+use Rattle.range_merge.proofs.CopySteps.{Reads}
+use Rattle.range_merge.proofs.fast.short_runs.copied.copy_runs.Given as goal
 
 abbrev pub invariant-loop-firsts : goal.invariant-loop-firsts
 invariant-loop-firsts g l = record {

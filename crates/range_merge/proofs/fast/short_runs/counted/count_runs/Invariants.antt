@@ -1,6 +1,6 @@
 use Rattle.std.proofs.Common.{◌≡◌, ◌+◌, ◌-◌, ◌≤◌, length, drop}
-use Rattle.range_merge.proofs.ByPlaceSteps.{Counts}
-use Rattle.range_merge.proofs.fast.short_runs.counted.read_by_place.Given as goal
+use Rattle.range_merge.proofs.CountSteps.{Counts}
+use Rattle.range_merge.proofs.fast.short_runs.counted.count_runs.Given as goal
 
 abbrev pub invariant-loop-lefts : goal.invariant-loop-lefts
 invariant-loop-lefts g l = record {

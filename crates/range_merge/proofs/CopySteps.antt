@@ -21,7 +21,7 @@ use Rattle.range_merge.specs.Copies.{AreCopies, IsAppended, items_if}
 use Rattle.range_merge.specs.Owners.{Owner, left_only, right_only, shared}
 use Rattle.range_merge.specs.Stages.{Progress}
 use Rattle.range_merge.specs.Runs.{joined, runs, runs_of, weight, weight_of}
-use Rattle.range_merge.specs.Singly.{is_answer, table_from, lefts_of, rights_of, IsLong, IsRead}
+use Rattle.range_merge.specs.ShortRuns.{is_answer, table_from, lefts_of, rights_of, IsLong, IsRead}
 use Rattle.range_merge.specs.OneRun.{FirstsStand, one_of_run, takes, taken_of_run, left_after, right_after, left_on_after, right_on_after}
 use Rattle.range_merge.specs.declared.runs.Run.{Run}
 use Rattle.range_merge.specs.declared.runs.Run.TheVariants.{Left, Right, Both}

@@ -3,7 +3,7 @@ use Rattle.std.specs.declared.cmp.Ordering.TheVariants.{Less}
 use Rattle.range_merge.proofs.MergeLoop.{Progress-none}
 use Rattle.range_merge.proofs.Outputs.{All-rest}
 use Rattle.range_merge.proofs.Pairs.{AllPairs-drop}
-use Rattle.range_merge.proofs.fast.short_runs.into_output.SinglyShortRunsSliceMergeState.read.Goals as goal
+use Rattle.range_merge.proofs.fast.short_runs.into_output.CopyingReaderShortRunsSliceMergeState.read.Goals as goal
 
 pub returns-then-are_few-clause-goes_on : goal.returns-then-are_few-clause-goes_on
 returns-then-are_few-clause-goes_on g c = record {

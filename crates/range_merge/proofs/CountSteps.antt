@@ -13,15 +13,15 @@ use Rattle.std.specs.Ordering.{is_le}
 use Rattle.std.specs.declared.cmp.Ordering.{Ordering}
 use Rattle.std.specs.declared.cmp.Ordering.TheVariants.{Less, Equal, Greater}
 use Rattle.range_merge.specs.Boundaries.{IsAscending, is_odd}
-use Rattle.range_merge.specs.ByPlace.{IsCounted}
+use Rattle.range_merge.specs.Counted.{IsCounted}
 use Rattle.range_merge.specs.Changes.{taken_item, taken_items}
 use Rattle.range_merge.specs.Connective.{Table, differ}
 use Rattle.range_merge.specs.Copies.{IsAppended, items_if}
 use Rattle.range_merge.specs.Stages.{Progress}
 use Rattle.range_merge.specs.Runs.{weight}
-use Rattle.range_merge.specs.Singly.{table_from, IsLong, IsCountStep, AreFourCounted}
+use Rattle.range_merge.specs.ShortRuns.{table_from, IsLong, IsCountStep, AreFourCounted}
 use Rattle.range_merge.specs.OneRun.{FirstsStand, one_of_run, takes}
-use Rattle.range_merge.proofs.SinglySteps.{Reads, Reads-start, Reads-more, Reads-made, Reads-cost, Reads-looked, takes-at}
+use Rattle.range_merge.proofs.CopySteps.{Reads, Reads-start, Reads-more, Reads-made, Reads-cost, Reads-looked, takes-at}
 use Rattle.range_merge.proofs.EvenSteps.{FirstsStand-take, drop-of_take}
 use Rattle.range_merge.proofs.Relative.{Progress-from}
 

@@ -1,8 +1,8 @@
 use Rattle.std.proofs.Common.{◌+◌, ◌^◌, ◌<◌, ◌≤◌, List, length, take, drop, refl, ap, sym, ◌∙◌, arith}
 use Rattle.std.proofs.lemmas.Bool.{false≢true}
 use Rattle.std.proofs.lemmas.List.{drop-drop, length-take-le, take_rest}
-use Rattle.range_merge.proofs.ByPlaceSteps.{Counts-start, Counts-four, Counts-window, Counts-made, Counts-looked, Counts-cost, Counts-counted}
-use Rattle.range_merge.proofs.fast.short_runs.counted.read_by_place.Goals as goal
+use Rattle.range_merge.proofs.CountSteps.{Counts-start, Counts-four, Counts-window, Counts-made, Counts-looked, Counts-cost, Counts-counted}
+use Rattle.range_merge.proofs.fast.short_runs.counted.count_runs.Goals as goal
 
 pub loop-lefts-init : goal.loop-lefts-init
 loop-lefts-init g c = record {

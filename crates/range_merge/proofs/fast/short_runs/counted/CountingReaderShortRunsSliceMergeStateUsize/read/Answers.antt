@@ -1,5 +1,5 @@
 use Rattle.range_merge.proofs.MergeLoop.{Progress-none}
-use Rattle.range_merge.proofs.fast.short_runs.counted.ByPlaceShortRunsSliceMergeStateUsize.read.Goals as goal
+use Rattle.range_merge.proofs.fast.short_runs.counted.CountingReaderShortRunsSliceMergeStateUsize.read.Goals as goal
 
 pub returns-then-are_few-clause-goes_on : goal.returns-then-are_few-clause-goes_on
 returns-then-are_few-clause-goes_on g c = record {

@@ -3,7 +3,7 @@
 use Rattle.std.specs.Prelude.{◌≡◌, ℕ, List, length}
 use Rattle.std.specs.declared.cmp.Ordering.{Ordering}
 use Rattle.range_merge.specs.Connective.{Table}
-use Rattle.range_merge.specs.Singly.{IsRead}
+use Rattle.range_merge.specs.ShortRuns.{IsRead}
 
 -- from the start of both lists, with both sides off, to the items i and j: k items are taken, which
 -- nobody keeps, and how the next items stand
