@@ -177,7 +177,7 @@ MUTANTS = [
            "let (from, to) = (up_to(set, start), set.boundaries().partition_point(|it| it < last));", "any_range"),
     Mutant("nothing is below the least value, and yet returned", "any_range/within.rs", "if self.end.is_min_value() {", "if false {", "any_range"),
     Mutant("a change is returned where there is none", "view/questions.rs",
-           "!self\n                    .proved()\n                    .has_all_within(&range.start, &range.end, &mut count)",
+           "!questions::has_all(self.boundaries(), &range.start, &range.end, &mut count)",
            "range.start < range.end", "any_range"),
     Mutant("a tracker takes the last number for an offset", "tracker.rs", "range.start..u64::MAX,", "range.start..range.start,", "any_range"),
     Mutant("a clone of a tracker has no limit", "tracker.rs", "Self::new(self.0.limit);", "Self::new(usize::MAX - 2);", "any_range"),

@@ -1,10 +1,8 @@
-pub mod Searched
 pub mod InTurn
 pub mod PutInTurn
 pub mod OpenEnded
 pub mod Changed
 pub mod ToTheEnd
-pub mod Around
 pub mod Pairs
 pub mod Selected
 pub mod Measured

@@ -10,7 +10,6 @@ mod members;
 mod merging;
 mod overlapping;
 mod questions;
-mod ranges;
 mod set;
 mod several;
 mod space;

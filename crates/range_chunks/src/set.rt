@@ -20,8 +20,8 @@ mod several;
 mod taking;
 
 use crate::iter::Iter;
-use crate::questions::{has_some, next_at};
 use range_collections::Comparisons;
+use range_collections::questions::{has_some, next_at};
 use range_list::Chunks;
 use std::alloc::{AllocError, Global};
 use std::marker::Model;

@@ -55,3 +55,5 @@ pub mod SingleValues
 pub mod RangeMembers
 pub mod Texts
 pub mod Cursors
+pub mod Searched
+pub mod Around

@@ -2,6 +2,7 @@
 //! a member if an odd number of boundaries is at or below it.
 #![tactic(auto)]
 
+mod boundaries;
 mod comparisons;
 mod countable;
 mod iter;
@@ -10,6 +11,7 @@ pub mod laws;
 mod lists;
 mod members;
 mod parse;
+pub mod questions;
 mod range_set;
 mod range_set_range;
 mod row;
@@ -17,6 +19,7 @@ mod text;
 mod view;
 mod whole_number;
 
+pub use boundaries::{Boundaries, Unread};
 pub use comparisons::{Comparisons, EntryCopier};
 pub use countable::{Countable, FromPlace, Multiples, Unsigned};
 pub use iter::{Gaps, Iter, RangesWithin};

@@ -2,6 +2,7 @@
 #![tactic(auto)]
 
 mod appending;
+mod boundaries;
 mod chunk;
 mod chunk_list;
 mod copying;

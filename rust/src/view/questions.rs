@@ -1,6 +1,6 @@
 //! Questions of one set, or of two. None takes memory.
 
-use crate::generated::range_collections::{Comparisons, FromPlace};
+use crate::generated::range_collections::{questions, Comparisons, FromPlace};
 use crate::generated::range_merge::NoRoom;
 use crate::iter::Members;
 use crate::operation::Connective;
@@ -93,9 +93,7 @@ impl<T: Ord> RangeSetRef<T> {
         match range {
             RangeSetRange::Range(range) => {
                 let mut count = Comparisons::new();
-                !self
-                    .proved()
-                    .has_all_within(&range.start, &range.end, &mut count)
+                !questions::has_all(self.boundaries(), &range.start, &range.end, &mut count)
             }
             RangeSetRange::RangeFrom(range) => !self.has_all_from(&range.start),
         }
@@ -105,7 +103,7 @@ impl<T: Ord> RangeSetRef<T> {
     pub(crate) fn has_some(&self, range: &RangeSetRange<T>) -> bool {
         match range {
             RangeSetRange::Range(range) => {
-                self.proved().has_member_within(&range.start, &range.end)
+                questions::has_some(self.boundaries(), &range.start, &range.end)
             }
             RangeSetRange::RangeFrom(range) => self.has_some_from(&range.start),
         }

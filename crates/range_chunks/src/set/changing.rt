@@ -8,9 +8,9 @@ ghost use Rattle.range_collections.specs.Insertion.{IsChangedByRange, without_va
 ghost use Rattle.range_collections.specs.Intersects.{HasMemberWithin};
 ghost use Rattle.range_collections.specs.Ranges.{range_items};
 
-use crate::questions::{has_all, has_some};
 use crate::set::ChunkedRangeSet;
 use range_collections::Comparisons;
+use range_collections::questions::{has_all, has_some};
 use std::alloc::AllocError;
 use std::ops::Range;
 

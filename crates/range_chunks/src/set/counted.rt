@@ -11,10 +11,10 @@ ghost use Rattle.range_collections.specs.Insertion.{IsChangedByRange};
 ghost use Rattle.range_collections.specs.Ranges.{range_items};
 
 use crate::cutting::set_range;
-use crate::questions::{has_all, is_member};
 use crate::set::ChunkedRangeSet;
 use crate::to_the_end::set_from;
 use range_collections::Comparisons;
+use range_collections::questions::{contains, has_all};
 use std::alloc::AllocError;
 use std::ops::{Range, RangeFrom};
 
@@ -27,7 +27,7 @@ impl<T: Ord> ChunkedRangeSet<T> {
         ensures comparisons { AddsAtMost count.old count.new
             (digits (length self.now) + digits 512) }
     {
-        is_member(&self.list, value, count)
+        contains(&self.list, value, count)
     }
 }
 

@@ -5,8 +5,9 @@ ghost use Rattle.range_merge.specs.Boundaries.{member};
 ghost use Rattle.range_collections.specs.Covered.{members_below};
 ghost use Rattle.range_collections.specs.Members.{IsPrevious};
 
-use crate::members::{prev_at, rank, select};
+use crate::members::{rank, select};
 use crate::set::ChunkedRangeSet;
+use range_collections::questions::prev_at;
 use range_collections::{Countable, FromPlace};
 
 impl<T: Countable> ChunkedRangeSet<T> {

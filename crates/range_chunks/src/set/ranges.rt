@@ -14,10 +14,10 @@ ghost use Rattle.range_collections.specs.Within.{GivesParts};
 
 use crate::iter::Iter;
 use crate::overlapping::overlapping;
-use crate::ranges::range_at;
 use crate::set::ChunkedRangeSet;
 use crate::values::{count_members, is_everything};
 use crate::within::{Gaps, RangesWithin, parts_within};
+use range_collections::questions::range_at;
 use range_collections::{Comparisons, Countable, RangeSetEntry, RangeSetRange};
 use std::ops::{Range, RangeFrom};
 
@@ -65,7 +65,7 @@ impl<T: Ord> ChunkedRangeSet<T> {
         ensures members { IfSome result (λ range. (x : T) →
             IsInRange T.cmp (range_now range) x → member T.cmp self.now x ≡ true) }
     {
-        range_at(&self.list, value)
+        range_at(&self.list, value, &mut Comparisons::new())
     }
 
     /// The parts of `within` that aren't in the set, from the lowest on. None is empty, and each

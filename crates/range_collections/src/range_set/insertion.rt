@@ -14,6 +14,7 @@ ghost use Rattle.std.specs.Ordering.{is_le, is_lt};
 ghost use Rattle.range_merge.specs.Boundaries.{member};
 
 use crate::comparisons::Comparisons;
+use crate::questions::{has_all, has_some};
 use crate::range_set::RangeSet;
 use crate::range_set::splicing::set_range;
 use std::alloc::{AllocError, Global};
@@ -73,9 +74,12 @@ impl<T: Ord + MadeWith<Global> + Drop, const N: usize> RangeSet<T, N> {
         ensures members { OnOk result ((x : T) → member T.cmp self.new x ≡
             (member T.cmp self.old x || (is_le (T.cmp range.start x) && is_lt (T.cmp x range.end)))) }
     {
-        let all = self
-            .as_ref()
-            .has_all_within(&range.start, &range.end, &mut Comparisons::new());
+        let all = has_all(
+            self.list.as_slice(),
+            &range.start,
+            &range.end,
+            &mut Comparisons::new(),
+        );
         self.insert(range)?;
         Ok(!all)
     }
@@ -128,7 +132,7 @@ impl<T: Ord + MadeWith<Global> + Drop, const N: usize> RangeSet<T, N> {
         ensures members { OnOk result ((x : T) → member T.cmp self.new x ≡
             (member T.cmp self.old x && not (is_le (T.cmp range.start x) && is_lt (T.cmp x range.end)))) }
     {
-        let some = self.as_ref().has_member_within(&range.start, &range.end);
+        let some = has_some(self.list.as_slice(), &range.start, &range.end);
         self.remove(range)?;
         Ok(some)
     }

@@ -10,13 +10,12 @@ ghost use Rattle.range_collections.specs.Sets.{IsSubset, Intersects, IsDisjoint,
 ghost use Rattle.range_collections.specs.Values.{IsEverything};
 
 use crate::comparisons::Comparisons;
-use crate::lists::{begins_at_least, is_odd};
+use crate::lists::begins_at_least;
+use crate::questions::contains;
 use crate::view::RangeSetRef;
 use range_entry::RangeSetEntry;
 use range_merge::laws::changes_mean_the_connective;
-use range_merge::{
-    BoolOpMergeState, CountMergeState, DiffOp, IntersectionOp, MergeOperation, count_up_to,
-};
+use range_merge::{BoolOpMergeState, CountMergeState, DiffOp, IntersectionOp, MergeOperation};
 
 impl<'a, T: Ord> RangeSetRef<'a, T> {
     /// Whether `value` is a member: an odd number of boundaries is at or below it.
@@ -36,7 +35,7 @@ impl<'a, T: Ord> RangeSetRef<'a, T> {
         ensures comparisons { AddsAtMost count.old count.new
             (digits (length self.now.boundaries.now)) }
     {
-        is_odd(count_up_to(self.boundaries, value, count))
+        contains(self.boundaries, value, count)
     }
 
     /// Whether the set is empty.

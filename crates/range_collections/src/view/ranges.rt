@@ -1,22 +1,22 @@
 //! The ranges of a view: all of them, the first and the last, the one at an element; and one range
 //! of elements against the view.
-ghost use Rattle.std.specs.Prelude.{◌≡◌, ◌↔◌, IsTrue, [], length, min, None, Some, MatchOption, slice_get, ◌+◌, ◌*◌, ◌<◌, ◌≤◌, ◌^◌, true, Contains, IsSome, IfSome, false, not, IfNone};
+ghost use Rattle.std.specs.Prelude.{◌≡◌, ◌↔◌, IsTrue, [], length, min, None, Some, MatchOption, slice_get, ◌+◌, ◌*◌, ◌<◌, ◌≤◌, ◌^◌, true, Contains, IsSome, IfSome, false, IfNone};
 ghost use Rattle.std.specs.List.{last_or, AllWithin};
 ghost use Rattle.std.specs.Ordering.{is_le};
 ghost use Rattle.std.specs.declared.cmp.Ordering.TheVariants.{Less};
 ghost use Rattle.range_merge.specs.Boundaries.{member};
 ghost use Rattle.range_merge.specs.Counting.{AddsAtMost};
 ghost use Rattle.range_merge.specs.Runs.{digits};
-ghost use Rattle.range_collections.specs.Intersects.{HasMemberWithin, IsItemBelow};
+ghost use Rattle.range_collections.specs.Intersects.{HasMemberWithin};
 ghost use Rattle.range_collections.specs.Extent.{IsSpan, HasAllWithin, IsNext};
 ghost use Rattle.range_collections.specs.Ranges.{ranges_of, range_now, range_start, IsInRange};
 
 use crate::comparisons::Comparisons;
 use crate::iter::Iter;
-use crate::lists::is_odd;
-use crate::range_set_range::{RangeSetRange, has_elements};
+use crate::questions::{has_all, has_some, next_at, range_at};
+use crate::range_set_range::RangeSetRange;
 use crate::view::RangeSetRef;
-use range_merge::{Compare, count_up_to, search};
+use range_merge::search;
 use std::ops::{Range, RangeFrom};
 
 impl<'a, T: Ord> RangeSetRef<'a, T> {
@@ -102,11 +102,7 @@ impl<'a, T: Ord> RangeSetRef<'a, T> {
         ensures comparisons { AddsAtMost count.old count.new
             (digits (length self.now.boundaries.now)) }
     {
-        let before = count_up_to(self.boundaries, value, count);
-        if !is_odd(before) {
-            return None;
-        }
-        Iter::new(&self.boundaries[before - 1..]).next()
+        range_at(self.boundaries, value, count)
     }
 
     /// The least member at or above `from`, or `None` if there is none. It is `from` itself if that
@@ -119,7 +115,7 @@ impl<'a, T: Ord> RangeSetRef<'a, T> {
         ensures none { IfNone result ((x : T) →
             is_le (T.cmp from.now x) ≡ true → member T.cmp self.now.boundaries.now x ≡ false) }
     {
-        self.next_at(from, true)
+        next_at(self.boundaries, from, true)
     }
 
     /// The least element at or above `from` that isn't a member. It is `from` itself if that isn't
@@ -133,7 +129,7 @@ impl<'a, T: Ord> RangeSetRef<'a, T> {
         ensures none { IfNone result ((x : T) →
             is_le (T.cmp from.now x) ≡ true → member T.cmp self.now.boundaries.now x ≡ true) }
     {
-        self.next_at(from, false)
+        next_at(self.boundaries, from, false)
     }
 
     /// Whether every element of the range is a member. It is `true` for an empty or reversed range.
@@ -158,7 +154,7 @@ impl<'a, T: Ord> RangeSetRef<'a, T> {
         ensures comparisons { AddsAtMost count.old count.new
             (digits (length self.now.boundaries.now) + min 1 (length self.now.boundaries.now) + 1) }
     {
-        self.has_all_within(&range.start, &range.end, count)
+        has_all(self.boundaries, &range.start, &range.end, count)
     }
 
     /// Whether some member lies in the range. It is `false` for an empty or reversed range.
@@ -169,71 +165,7 @@ impl<'a, T: Ord> RangeSetRef<'a, T> {
         ensures { IsTrue result ↔
             HasMemberWithin T.cmp self.now.boundaries.now range.start range.end }
     {
-        self.has_member_within(&range.start, &range.end)
-    }
-
-    // Whether every element from `start` on and below `end` is a member.
-    #[inline(always)]
-    pub(crate) fn has_all_within(&self, start: &T, end: &T, count: &mut Comparisons) -> bool
-        requires { count.old < 2 ^ 64 }
-        ensures members { IsTrue result ↔
-            HasAllWithin T.cmp self.now.boundaries.now start.now end.now }
-        ensures comparisons { AddsAtMost count.old count.new
-            (digits (length self.now.boundaries.now) + min 1 (length self.now.boundaries.now) + 1) }
-    {
-        if !has_elements(start, end, count) {
-            return true;
-        }
-        let before = count_up_to(self.boundaries, start, count);
-        if !is_odd(before) {
-            return false;
-        }
-        !self.is_next_below(before, end, count)
-    }
-
-    // Whether some element from `start` on and below `end` is a member.
-    #[inline(always)]
-    pub(crate) fn has_member_within(&self, start: &T, end: &T) -> bool
-        ensures { IsTrue result ↔
-            HasMemberWithin T.cmp self.now.boundaries.now start.now end.now }
-    {
-        if !has_elements(start, end, &mut Comparisons::new()) {
-            return false;
-        }
-        let count = count_up_to(self.boundaries, start, &mut Comparisons::new());
-        if is_odd(count) {
-            return true;
-        }
-        self.is_next_below(count, end, &mut Comparisons::new())
-    }
-
-    // The least element at or above `from` that is a member, where `inside` is true, or else that
-    // is none.
-    #[inline(always)]
-    fn next_at(&self, from: &'a T, inside: bool) -> Option<&'a T>
-        ensures next { IfSome result (λ next.
-            IsNext T.cmp inside self.now.boundaries.now from.now next.now) }
-        ensures none { IfNone result ((x : T) → is_le (T.cmp from.now x) ≡ true →
-            member T.cmp self.now.boundaries.now x ≡ not inside) }
-    {
-        let before = count_up_to(self.boundaries, from, &mut Comparisons::new());
-        if is_odd(before) == inside {
-            return Some(from);
-        }
-        self.boundaries.get(before)
-    }
-
-    // Whether there is a boundary at place `i`, and it is below `end`.
-    #[inline(always)]
-    fn is_next_below(&self, i: usize, end: &T, count: &mut Comparisons) -> bool
-        requires { count.old < 2 ^ 127 }
-        ensures answer { IsTrue result ↔ IsItemBelow T.cmp self.now.boundaries.now i end.now }
-        ensures comparisons { AddsAtMost count.old count.new 1 }
-    {
-        match self.boundaries.get(i) {
-            Some(next) => count.compare(next, end).is_lt(),
-            None => false,
-        }
+        has_some(self.boundaries, &range.start, &range.end)
     }
 
     // How many boundaries are below `value`.

@@ -1,15 +1,15 @@
 //! The members of a view by rank and one by one, of values that stand in a row.
-ghost use Rattle.std.specs.Prelude.{◌≡◌, ◌+◌, ◌-◌, ◌<◌, ◌≤◌, length, IfSome, IfNone, MatchOption, true, false, not};
+ghost use Rattle.std.specs.Prelude.{◌≡◌, ◌<◌, ◌≤◌, IfSome, IfNone, MatchOption, true, false};
 ghost use Rattle.std.specs.Ordering.{is_le};
-ghost use Rattle.std.specs.declared.cmp.Ordering.TheVariants.{Less};
-ghost use Rattle.range_merge.specs.Boundaries.{IsAscending, count_up_to, member};
+ghost use Rattle.range_merge.specs.Boundaries.{IsAscending, member};
 ghost use Rattle.range_collections.specs.Covered.{members_below};
 ghost use Rattle.range_collections.specs.Members.{IsPrevious, members_of};
 
 use crate::comparisons::Comparisons;
-use crate::countable::{Countable, FromPlace, know_last};
+use crate::countable::{Countable, FromPlace};
 use crate::lists::is_odd;
 use crate::members::Members;
+use crate::questions::prev_at;
 use crate::view::RangeSetRef;
 use crate::view::counting::{between, count_members};
 use range_merge::count_up_to;
@@ -46,7 +46,7 @@ impl<'a, T: FromPlace> RangeSetRef<'a, T> {
         ensures none { IfNone result ((x : T) → T.is_value x → is_le (T.cmp x from.now) ≡ true →
             member T.cmp self.now.boundaries.now x ≡ false) }
     {
-        self.prev_at(from, true)
+        prev_at(self.boundaries, from, true)
     }
 
     /// The greatest value at or below `from` that isn't a member, or `None` if there is none. It is
@@ -60,7 +60,7 @@ impl<'a, T: FromPlace> RangeSetRef<'a, T> {
         ensures none { IfNone result ((x : T) → T.is_value x → is_le (T.cmp x from.now) ≡ true →
             member T.cmp self.now.boundaries.now x ≡ true) }
     {
-        self.prev_at(from, false)
+        prev_at(self.boundaries, from, false)
     }
 
     /// The member with `k` members below it, or `None` if there are no more than `k`.
@@ -85,22 +85,6 @@ impl<'a, T: FromPlace> RangeSetRef<'a, T> {
         ensures { result ≡ members_of T.cmp T.value self.now.boundaries.now 0 T.count }
     {
         Members::new(self.boundaries)
-    }
-
-    // The greatest value at or below `from` that is a member, where `inside` is true, or else that
-    // is none.
-    fn prev_at(&self, from: &T, inside: bool) -> Option<T>
-        ensures previous { IfSome result (λ previous.
-            IsPrevious T.cmp T.is_value inside self.now.boundaries.now from.now previous) }
-        ensures none { IfNone result ((x : T) → T.is_value x → is_le (T.cmp x from.now) ≡ true →
-            member T.cmp self.now.boundaries.now x ≡ not inside) }
-    {
-        let before = count_up_to(self.boundaries, from, &mut Comparisons::new());
-        from.known();
-        if is_odd(before) == inside {
-            return Some(*from);
-        }
-        value_below(&self.boundaries[..before])
     }
 }
 
@@ -127,20 +111,4 @@ fn nth_member<T: FromPlace>(items: &[T], k: u128) -> Option<T>
     let start = items.get(i)?;
     start.known();
     T::from_place(start.place().checked_add(left)?)
-}
-
-// The greatest value below the last of strictly sorted items, if there is one.
-fn value_below<T: FromPlace>(items: &[T]) -> Option<T>
-    requires { IsAscending T.cmp items.now }
-    ensures value { IfSome result T.is_value }
-    ensures below { IfSome result (λ at. count_up_to T.cmp items.now at + 1 ≡ length items.now) }
-    ensures greatest { IfSome result (λ at. (x : T) → T.is_value x → T.cmp at x ≡ Less →
-        count_up_to T.cmp items.now x ≡ length items.now) }
-    ensures none { IfNone result ((x : T) → T.is_value x →
-        count_up_to T.cmp items.now x ≡ length items.now) }
-{
-    let (last, rest) = items.split_last()?;
-    last.known();
-    know_last(rest);
-    T::from_place(last.place().checked_sub(1)?)
 }

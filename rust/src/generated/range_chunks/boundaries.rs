@@ -3,6 +3,6 @@
 //! of its own.
 
 pub(crate) use crate::generated::range_chunks::cutting::{cut_at, splice};
-pub(crate) use crate::generated::range_chunks::questions::has_all;
 pub(crate) use crate::generated::range_chunks::values::count_members;
 pub(crate) use crate::generated::range_chunks::within::parts_within;
+pub(crate) use crate::generated::range_collections::questions::has_all;

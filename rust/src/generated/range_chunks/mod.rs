@@ -10,7 +10,6 @@ pub(crate) mod members;
 pub(crate) mod merging;
 pub(crate) mod overlapping;
 pub(crate) mod questions;
-pub(crate) mod ranges;
 pub(crate) mod set;
 pub(crate) mod several;
 pub(crate) mod space;

@@ -13,7 +13,7 @@ pub(crate) mod several;
 pub(crate) mod taking;
 
 use crate::generated::range_chunks::iter::Iter;
-use crate::generated::range_chunks::questions::{has_some, next_at};
+use crate::generated::range_collections::questions::{has_some, next_at};
 use crate::generated::range_collections::Comparisons;
 use crate::generated::range_list::Chunks;
 use crate::support::{AllocError, Global};

@@ -2,12 +2,14 @@
 //! Sets of elements of an ordered type, kept as strictly sorted lists of boundaries: an element is
 //! a member if an odd number of boundaries is at or below it.
 
+pub(crate) mod boundaries;
 pub(crate) mod comparisons;
 pub(crate) mod countable;
 pub(crate) mod iter;
 pub(crate) mod lists;
 pub(crate) mod members;
 pub(crate) mod parse;
+pub mod questions;
 pub(crate) mod range_set;
 pub(crate) mod range_set_range;
 pub(crate) mod row;
@@ -23,6 +25,7 @@ pub use crate::generated::range_merge::{
     NoRoom, Run, SliceIterator, SmallVecMergeState, UnionOp, Work, XorOp,
 };
 pub use crate::support::{InPlaceMergeState, InPlaceMergeStateRef};
+pub use boundaries::{Boundaries, Unread};
 pub use comparisons::{Comparisons, EntryCopier};
 pub use countable::{Countable, FromPlace, Multiples, Unsigned};
 pub use iter::{Gaps, Iter, RangesWithin};

@@ -2,6 +2,7 @@
 //! A list whose items lie in chunks: what sets and maps of ranges that are changed one by one stand on.
 
 pub(crate) mod appending;
+pub(crate) mod boundaries;
 pub(crate) mod chunk;
 pub(crate) mod chunk_list;
 pub(crate) mod copying;

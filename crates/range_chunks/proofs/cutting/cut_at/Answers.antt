@@ -2,7 +2,7 @@ use Rattle.std.proofs.Common.{arith, length}
 use Rattle.std.proofs.lemmas.List.{map-id}
 use Rattle.range_merge.proofs.Digits.{digits-mono}
 use Rattle.range_list.specs.Lists.{joined}
-use Rattle.range_chunks.proofs.Searched.{digits-rest}
+use Rattle.range_collections.proofs.Searched.{digits-rest}
 use Rattle.range_chunks.proofs.cutting.cut_at.Goals as goal
 
 pub find-found-requires-clause-ascending : goal.find-found-requires-clause-ascending

@@ -4,7 +4,7 @@ use Rattle.range_merge.proofs.Digits.{digits-le, digits-mono}
 use Rattle.range_collections.proofs.Insertion.{cuts_ordered, same_parity}
 use Rattle.range_list.specs.Lists.{joined}
 use Rattle.range_chunks.proofs.Changed.{ascending-spliced, changed-spliced, below-above}
-use Rattle.range_chunks.proofs.Searched.{digits-rest}
+use Rattle.range_collections.proofs.Searched.{digits-rest}
 use Rattle.std.proofs.lemmas.Result.{on_ok_weaker}
 use Rattle.range_chunks.proofs.InTurn.{IsSet-spliced, no_longer}
 use Rattle.range_chunks.proofs.cutting.set_between.Goals as goal

@@ -3,7 +3,7 @@ use Rattle.std.proofs.Common.{option_copied}
 use Rattle.range_collections.proofs.Ranked.{members_below-le}
 use Rattle.range_list.specs.Lists.{joined, place_at}
 use Rattle.range_chunks.specs.Ended.{CountsEnded}
-use Rattle.range_chunks.proofs.Searched.{from-front}
+use Rattle.range_collections.proofs.Searched.{from-front}
 use Rattle.range_chunks.proofs.Selected.{rank-ended, rank-endless, start-below}
 use Rattle.range_chunks.proofs.members.rank.Goals as goal
 

@@ -1,7 +1,7 @@
 use Rattle.std.proofs.Common.{arith}
 use Rattle.std.proofs.lemmas.List.{map-id}
 use Rattle.range_list.specs.Lists.{joined}
-use Rattle.range_chunks.proofs.Searched.{digits-rest}
+use Rattle.range_collections.proofs.Searched.{digits-rest}
 use Rattle.range_chunks.proofs.questions.place_up_to.Goals as goal
 
 pub place_up_to-requires-clause-ascending : goal.place_up_to-requires-clause-ascending

@@ -3,7 +3,7 @@ use Rattle.std.proofs.lemmas.List.{map-id}
 use Rattle.range_list.specs.Lists.{joined, place_at}
 use Rattle.range_collections.proofs.Insertion.{other_from_beq, other_truth, same_from_beq}
 use Rattle.range_chunks.proofs.InTurn.{settled_at, settled_already, settled_by_next, gap_before_next, gap_at_end, Greater-from_not_le}
-use Rattle.range_chunks.proofs.Searched.{item-read}
+use Rattle.range_collections.proofs.Searched.{item-read}
 use Rattle.range_chunks.proofs.several.gap_for.Goals as goal
 
 pub returns-in_default-clause-settled : goal.returns-in_default-clause-settled

@@ -3,9 +3,9 @@
 //! at most as many comparisons as `n` has binary digits, and those of 512.
 
 use crate::generated::range_chunks::cutting::set_range;
-use crate::generated::range_chunks::questions::{has_all, is_member};
 use crate::generated::range_chunks::set::ChunkedRangeSet;
 use crate::generated::range_chunks::to_the_end::set_from;
+use crate::generated::range_collections::questions::{contains, has_all};
 use crate::generated::range_collections::Comparisons;
 use crate::support::AllocError;
 use core::ops::{Range, RangeFrom};
@@ -22,7 +22,7 @@ impl<T: Ord> ChunkedRangeSet<T> {
     /// ```
     #[inline(always)]
     pub(crate) fn contains_counted(&self, value: &T, count: &mut Comparisons) -> bool {
-        is_member(&self.list, value, count)
+        contains(&self.list, value, count)
     }
 }
 

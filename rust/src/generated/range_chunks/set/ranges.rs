@@ -4,10 +4,10 @@
 
 use crate::generated::range_chunks::iter::Iter;
 use crate::generated::range_chunks::overlapping::overlapping;
-use crate::generated::range_chunks::ranges::range_at;
 use crate::generated::range_chunks::set::ChunkedRangeSet;
 use crate::generated::range_chunks::values::{count_members, is_everything};
 use crate::generated::range_chunks::within::{parts_within, Gaps, RangesWithin};
+use crate::generated::range_collections::questions::range_at;
 use crate::generated::range_collections::{Comparisons, Countable, RangeSetEntry, RangeSetRange};
 use crate::support::DivUp;
 use core::ops::{Range, RangeFrom};
@@ -72,7 +72,7 @@ impl<T: Ord> ChunkedRangeSet<T> {
     /// ```
     #[inline]
     pub fn range_at(&self, value: &T) -> Option<RangeSetRange<&T>> {
-        range_at(&self.list, value)
+        range_at(&self.list, value, &mut Comparisons::new())
     }
 
     /// The parts of `within` that aren't in the set, from the lowest on. None is empty, and each

@@ -5,6 +5,7 @@
 //! the set changes. The list grows by two boundaries or not at all.
 
 use crate::generated::range_collections::comparisons::Comparisons;
+use crate::generated::range_collections::questions::{has_all, has_some};
 use crate::generated::range_collections::range_set::splicing::set_range;
 use crate::generated::range_collections::range_set::RangeSet;
 use crate::support::AllocError;
@@ -75,9 +76,12 @@ impl<T: Ord, const N: usize> RangeSet<T, N> {
     ///     || (is_le (T.cmp range.start x) && is_lt (T.cmp x range.end))))
     /// ```
     pub fn insert_changed(&mut self, range: Range<T>) -> Result<bool, AllocError> {
-        let all = self
-            .as_ref()
-            .has_all_within(&range.start, &range.end, &mut Comparisons::new());
+        let all = has_all(
+            self.list.as_slice(),
+            &range.start,
+            &range.end,
+            &mut Comparisons::new(),
+        );
         self.insert(range)?;
         Ok(!all)
     }
@@ -142,7 +146,7 @@ impl<T: Ord, const N: usize> RangeSet<T, N> {
     ///     && not (is_le (T.cmp range.start x) && is_lt (T.cmp x range.end))))
     /// ```
     pub fn remove_changed(&mut self, range: Range<T>) -> Result<bool, AllocError> {
-        let some = self.as_ref().has_member_within(&range.start, &range.end);
+        let some = has_some(self.list.as_slice(), &range.start, &range.end);
         self.remove(range)?;
         Ok(some)
     }

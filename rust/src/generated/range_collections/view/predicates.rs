@@ -3,11 +3,12 @@
 //! whether a set has every value. Nothing here takes memory.
 
 use crate::generated::range_collections::comparisons::Comparisons;
-use crate::generated::range_collections::lists::{begins_at_least, is_odd};
+use crate::generated::range_collections::lists::begins_at_least;
+use crate::generated::range_collections::questions::contains;
 use crate::generated::range_collections::view::RangeSetRef;
 use crate::generated::range_entry::RangeSetEntry;
 use crate::generated::range_merge::{
-    count_up_to, BoolOpMergeState, CountMergeState, DiffOp, IntersectionOp, MergeOperation,
+    BoolOpMergeState, CountMergeState, DiffOp, IntersectionOp, MergeOperation,
 };
 
 impl<'a, T: Ord> RangeSetRef<'a, T> {
@@ -36,7 +37,7 @@ impl<'a, T: Ord> RangeSetRef<'a, T> {
     /// ```
     #[inline(always)]
     pub(crate) fn contains_counted(&self, value: &T, count: &mut Comparisons) -> bool {
-        is_odd(count_up_to(self.boundaries, value, count))
+        contains(self.boundaries, value, count)
     }
 
     /// Whether the set is empty.

@@ -4,10 +4,10 @@
 
 use crate::generated::range_collections::comparisons::Comparisons;
 use crate::generated::range_collections::iter::Iter;
-use crate::generated::range_collections::lists::is_odd;
-use crate::generated::range_collections::range_set_range::{has_elements, RangeSetRange};
+use crate::generated::range_collections::questions::{has_all, has_some, next_at, range_at};
+use crate::generated::range_collections::range_set_range::RangeSetRange;
 use crate::generated::range_collections::view::RangeSetRef;
-use crate::generated::range_merge::{count_up_to, search, Compare};
+use crate::generated::range_merge::search;
 use core::ops::{Range, RangeFrom};
 
 impl<'a, T: Ord> RangeSetRef<'a, T> {
@@ -121,11 +121,7 @@ impl<'a, T: Ord> RangeSetRef<'a, T> {
         value: &T,
         count: &mut Comparisons,
     ) -> Option<RangeSetRange<&'a T>> {
-        let before = count_up_to(self.boundaries, value, count);
-        if !is_odd(before) {
-            return None;
-        }
-        Iter::new(&self.boundaries[before - 1..]).next()
+        range_at(self.boundaries, value, count)
     }
 
     /// The least member at or above `from`, or `None` if there is none. It is `from` itself if that
@@ -142,7 +138,7 @@ impl<'a, T: Ord> RangeSetRef<'a, T> {
     /// ```
     #[inline]
     pub fn next_member(&self, from: &'a T) -> Option<&'a T> {
-        self.next_at(from, true)
+        next_at(self.boundaries, from, true)
     }
 
     /// The least element at or above `from` that isn't a member. It is `from` itself if that isn't
@@ -160,7 +156,7 @@ impl<'a, T: Ord> RangeSetRef<'a, T> {
     /// ```
     #[inline]
     pub fn next_gap(&self, from: &'a T) -> Option<&'a T> {
-        self.next_at(from, false)
+        next_at(self.boundaries, from, false)
     }
 
     /// Whether every element of the range is a member. It is `true` for an empty or reversed range.
@@ -189,7 +185,7 @@ impl<'a, T: Ord> RangeSetRef<'a, T> {
     /// ```
     #[inline]
     pub(crate) fn contains_range_counted(&self, range: Range<T>, count: &mut Comparisons) -> bool {
-        self.has_all_within(&range.start, &range.end, count)
+        has_all(self.boundaries, &range.start, &range.end, count)
     }
 
     /// Whether some member lies in the range. It is `false` for an empty or reversed range.
@@ -201,53 +197,7 @@ impl<'a, T: Ord> RangeSetRef<'a, T> {
     /// ```
     #[inline]
     pub fn intersects_range(&self, range: Range<T>) -> bool {
-        self.has_member_within(&range.start, &range.end)
-    }
-
-    // Whether every element from `start` on and below `end` is a member.
-    #[inline(always)]
-    pub(crate) fn has_all_within(&self, start: &T, end: &T, count: &mut Comparisons) -> bool {
-        if !has_elements(start, end, count) {
-            return true;
-        }
-        let before = count_up_to(self.boundaries, start, count);
-        if !is_odd(before) {
-            return false;
-        }
-        !self.is_next_below(before, end, count)
-    }
-
-    // Whether some element from `start` on and below `end` is a member.
-    #[inline(always)]
-    pub(crate) fn has_member_within(&self, start: &T, end: &T) -> bool {
-        if !has_elements(start, end, &mut Comparisons::new()) {
-            return false;
-        }
-        let count = count_up_to(self.boundaries, start, &mut Comparisons::new());
-        if is_odd(count) {
-            return true;
-        }
-        self.is_next_below(count, end, &mut Comparisons::new())
-    }
-
-    // The least element at or above `from` that is a member, where `inside` is true, or else that
-    // is none.
-    #[inline(always)]
-    fn next_at(&self, from: &'a T, inside: bool) -> Option<&'a T> {
-        let before = count_up_to(self.boundaries, from, &mut Comparisons::new());
-        if is_odd(before) == inside {
-            return Some(from);
-        }
-        self.boundaries.get(before)
-    }
-
-    // Whether there is a boundary at place `i`, and it is below `end`.
-    #[inline(always)]
-    fn is_next_below(&self, i: usize, end: &T, count: &mut Comparisons) -> bool {
-        match self.boundaries.get(i) {
-            Some(next) => count.compare(next, end).is_lt(),
-            None => false,
-        }
+        has_some(self.boundaries, &range.start, &range.end)
     }
 
     // How many boundaries are below `value`.

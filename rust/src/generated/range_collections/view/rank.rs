@@ -2,9 +2,10 @@
 //! The members of a view by rank and one by one, of values that stand in a row.
 
 use crate::generated::range_collections::comparisons::Comparisons;
-use crate::generated::range_collections::countable::{know_last, Countable, FromPlace};
+use crate::generated::range_collections::countable::{Countable, FromPlace};
 use crate::generated::range_collections::lists::is_odd;
 use crate::generated::range_collections::members::Members;
+use crate::generated::range_collections::questions::prev_at;
 use crate::generated::range_collections::view::counting::{between, count_members};
 use crate::generated::range_collections::view::RangeSetRef;
 use crate::generated::range_merge::count_up_to;
@@ -46,7 +47,7 @@ impl<'a, T: FromPlace> RangeSetRef<'a, T> {
     /// ```
     #[inline]
     pub fn prev_member(&self, from: &T) -> Option<T> {
-        self.prev_at(from, true)
+        prev_at(self.boundaries, from, true)
     }
 
     /// The greatest value at or below `from` that isn't a member, or `None` if there is none. It is
@@ -64,7 +65,7 @@ impl<'a, T: FromPlace> RangeSetRef<'a, T> {
     /// ```
     #[inline]
     pub fn prev_gap(&self, from: &T) -> Option<T> {
-        self.prev_at(from, false)
+        prev_at(self.boundaries, from, false)
     }
 
     /// The member with `k` members below it, or `None` if there are no more than `k`.
@@ -97,16 +98,6 @@ impl<'a, T: FromPlace> RangeSetRef<'a, T> {
     pub fn members(&self) -> Members<'a, T> {
         Members::new(self.boundaries)
     }
-
-    // The greatest value at or below `from` that is a member, where `inside` is true, or else that
-    // is none.
-    fn prev_at(&self, from: &T, inside: bool) -> Option<T> {
-        let before = count_up_to(self.boundaries, from, &mut Comparisons::new());
-        if is_odd(before) == inside {
-            return Some(*from);
-        }
-        value_below(&self.boundaries[..before])
-    }
 }
 
 // The member of a strictly sorted list of boundaries with `k` members below it, if there is one.
@@ -124,11 +115,4 @@ fn nth_member<T: FromPlace>(items: &[T], k: u128) -> Option<T> {
     }
     let start = items.get(i)?;
     T::from_place(start.place().checked_add(left)?)
-}
-
-// The greatest value below the last of strictly sorted items, if there is one.
-fn value_below<T: FromPlace>(items: &[T]) -> Option<T> {
-    let (last, rest) = items.split_last()?;
-    know_last(rest);
-    T::from_place(last.place().checked_sub(1)?)
 }

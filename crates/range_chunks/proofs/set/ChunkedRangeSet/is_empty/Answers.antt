@@ -1,6 +1,6 @@
 use Rattle.range_collections.proofs.CountUpTo.{IsTrue-no_members}
 use Rattle.range_list.specs.Lists.{joined}
-use Rattle.range_chunks.proofs.Searched.{is_nil-tested}
+use Rattle.range_collections.proofs.Searched.{is_nil-tested}
 use Rattle.range_chunks.proofs.set.ChunkedRangeSet.is_empty.Goals as goal
 
 pub returns : goal.returns
