@@ -144,10 +144,13 @@ def with_clone(item):
     """A struct with a `Clone` that asks no more of its parameters than the struct does."""
     tokens = item.tokens
     of = text_of(tokens[item.word + 2 : closing_angle(tokens, item.word + 2) + 1])
-    starts = (at for at in range(item.body + 1, item.end) if tokens[at - 1].text in ("{", ",") and stands(tokens, at + 1, ":"))
+    starts = [at for at in range(item.body + 1, item.end) if tokens[at - 1].text in ("{", ",", "pub") and stands(tokens, at + 1, ":")]
     fields = [tokens[at].text for at in starts]
     clones = ", ".join(f"{field}: Clone::clone(&self.{field})" for field in fields)
+    # A field whose type is a parameter is cloned by that.
+    whole = {tokens[at + 2].text for at in starts if tokens[at + 3].text in (",", "}")}
     parameters = re.sub(r":[^,<>]*", "", of)
+    of = re.sub(r"\b([A-Z]\w*)(?=[,>])", lambda it: it[1] + ": Clone" if it[1] in whole else it[1], of)
     put = f"impl{of} Clone for {item.name}{parameters} {{ #[inline] fn clone(&self) -> Self {{ {item.name} {{ {clones} }} }} }}"
     return [*tokens[item.start : item.end], *new_tokens(put, "\n\n", tokens[item.start].line)]
 

@@ -148,6 +148,7 @@ UNCALLED = {
     "range_collections/view/operations": {"RangeSetRef::merge_new"},
     "range_tracker/tracker": {"Tracker::gaps"},
     "range_list/list/reading": {"Chunks::last"},
+    "range_chunks/set/ranges": {"ChunkedRangeSet::items"},
     "range_chunks/space/fitting": {"ChunkedSpace::first_fit"},
 }
 # Fields that clauses alone read, by their file.
@@ -169,11 +170,12 @@ SHOWN = {
 }
 # Structs that are cloned in Rust whatever their elements are, by their file: their fields are references.
 CLONED = {
-    "range_collections/iter": {"Iter", "RangesWithin", "Unread"},
+    "range_collections/iter": {"Iter", "RangesWithin"},
+    "range_collections/questions/parts": {"Within"},
     "range_collections/members": {"Members"},
     "range_list/items": {"Items"},
     "range_chunks/iter": {"Iter"},
-    "range_chunks/within": {"RangesWithin", "Within"},
+    "range_chunks/within": {"RangesWithin"},
     "range_map/gaps": {"Gaps"},
     "range_map/iter": {"Iter"},
 }

@@ -3,8 +3,6 @@ pub mod PutInTurn
 pub mod OpenEnded
 pub mod Changed
 pub mod ToTheEnd
-pub mod Pairs
-pub mod Selected
 pub mod Measured
 pub mod Popped
 pub mod Bounded

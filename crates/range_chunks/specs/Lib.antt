@@ -1,4 +1,3 @@
 pub mod Bounds
-pub mod Ended
 pub mod Several
 pub mod Window

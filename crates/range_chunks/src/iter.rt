@@ -1,5 +1,5 @@
 //! The ranges of a set in chunks, from the lowest on and from the highest down.
-ghost use Rattle.std.specs.Prelude.{◌≡◌, ◌≤◌, ◌-◌, [], false, take, drop, length};
+ghost use Rattle.std.specs.Prelude.{◌≡◌, ◌≤◌, ◌-◌, false, take, drop, length};
 ghost use Rattle.std.specs.Cmp.Lexicographic.{pointwise};
 ghost use Rattle.std.specs.Iterator.{YieldsFirstBy, YieldsLastBy, item_count};
 ghost use Rattle.range_merge.specs.Boundaries.{is_odd};
@@ -41,16 +41,6 @@ impl<'a, T> Iter<'a, T> {
         Iter {
             unread: list.items(),
             endless: is_endless(list),
-        }
-    }
-
-    // No range.
-    pub(crate) fn nothing() -> Self
-        ensures { result ≡ [] }
-    {
-        Iter {
-            unread: Items::none(),
-            endless: false,
         }
     }
 

@@ -1,5 +1,5 @@
 //! The parts of a range that are in a set in chunks, and those that the set leaves out.
-ghost use Rattle.std.specs.Prelude.{◌≡◌, ◌<◌, ◌+◌, ◌*◌, ◌^◌, [], false, length, IfOk};
+ghost use Rattle.std.specs.Prelude.{◌≡◌, ◌<◌, ◌+◌, ◌*◌, ◌^◌, false, length, IfOk};
 ghost use Rattle.std.specs.Iterator.{YieldsFirstBy, item_count};
 ghost use Rattle.range_merge.specs.Boundaries.{IsAscending, is_odd};
 ghost use Rattle.range_merge.specs.Counting.{AddsAtMost};
@@ -8,8 +8,8 @@ ghost use Rattle.range_collections.specs.Ranges.{ranges_of};
 ghost use Rattle.range_collections.specs.Within.{GivesParts, borrowed_items, with_end, within_table};
 ghost use Rattle.range_list.specs.Lists.{joined};
 
-use crate::questions::{place_below, place_up_to};
-use range_collections::{Comparisons, EndedRanges, has_elements};
+use range_collections::questions::{self, Within, take_first};
+use range_collections::{Comparisons, EndedRanges};
 use range_list::{Chunks, Items};
 use std::alloc::{AllocError, Global};
 use std::iter::FusedIterator;
@@ -24,43 +24,31 @@ pub type Gaps<'a, T> = RangesWithin<'a, T>;
 /// boundaries that are still unread, of which there is an even number.
 #[derive(Drop)]
 pub struct RangesWithin<'a, T> {
-    unread: Within<'a, T>,
+    unread: Within<'a, T, Items<'a, T, bool>>,
 }
 
 impl<'a, T> Model for RangesWithin<'a, T> {
     ghost use Rattle.std.specs.Prelude.{◌≡◌, List, false, length};
     ghost use Rattle.range_merge.specs.Boundaries.{is_odd};
+    ghost use Rattle.range_collections.specs.Within.{borrowed_items};
 
     ghost Value = { List T };
 
-    ghost view = { λ it. it.unread };
+    ghost view = { λ it. borrowed_items it.unread.first it.unread.between it.unread.last };
 
-    ghost invariant = { λ it. is_odd (length it.unread) ≡ false };
+    ghost invariant = { λ it. is_odd (length
+        (borrowed_items it.unread.first it.unread.between it.unread.last)) ≡ false };
 }
 
 impl<'a, T> RangesWithin<'a, T> {
-    // No range.
+    // The ranges of these boundaries, of which there has to be an even number.
     #[inline(always)]
-    fn nothing() -> Self
-        ensures { result ≡ [] }
+    fn new(unread: Within<'a, T, Items<'a, T, bool>>) -> Self
+        requires { is_odd (length (borrowed_items unread.first unread.between unread.last)) ≡ false }
+        ensures { result ≡
+            borrowed_items unread.entry.first unread.entry.between unread.entry.last }
     {
-        Self::new(None, Items::none(), None)
-    }
-
-    // The ranges of these boundaries, of which there has to be an even number: a first one and a
-    // last one where they are given, and those between.
-    #[inline(always)]
-    fn new(first: Option<&'a T>, between: Items<'a, T, bool>, last: Option<&'a T>) -> Self
-        requires { is_odd (length (borrowed_items first between last)) ≡ false }
-        ensures { result ≡ borrowed_items first.entry between.entry last.entry }
-    {
-        RangesWithin {
-            unread: Within {
-                first,
-                between,
-                last,
-            },
-        }
+        RangesWithin { unread }
     }
 }
 
@@ -73,8 +61,8 @@ impl<'a, T> Iterator for RangesWithin<'a, T> {
 
     #[inline]
     fn next(&mut self) -> Option<Range<&'a T>> {
-        let start = self.unread.take_first()?;
-        let end = self.unread.take_first()?;
+        let start = take_first(&mut self.unread)?;
+        let end = take_first(&mut self.unread)?;
         Some(Range { start, end })
     }
 }
@@ -104,14 +92,7 @@ pub fn parts_within<'a, T: Ord>(
     ensures comparisons { AddsAtMost count.old count.new
         (2 * (digits (length list.now) + digits 512) + 1) }
 {
-    if !has_elements(within.start, within.end, count) {
-        return RangesWithin::nothing();
-    }
-    let from = place_up_to(list, within.start, count);
-    let to = place_below(list, within.end, count);
-    let first = (list.mark_at(from) == inside).then_some(within.start);
-    let last = (list.mark_at(to) == inside).then_some(within.end);
-    RangesWithin::new(first, list.between(from, to), last)
+    RangesWithin::new(questions::parts_within(list, within, inside, count))
 }
 
 /// The boundaries of the parts, in full chunks and a last one.
@@ -123,42 +104,8 @@ pub fn copies_of(
 {
     let mut list = Chunks::new(alloc);
     let mut unread = parts.unread;
-    while let Some(boundary) = unread.take_first() {
+    while let Some(boundary) = take_first(&mut unread) {
         list.push(*boundary)?;
     }
     Ok(list)
-}
-
-// Boundaries by reference: a first one, those between, and a last one. A clause reads it as the
-// list of them.
-#[derive(Drop)]
-struct Within<'a, T> {
-    first: Option<&'a T>,
-    between: Items<'a, T, bool>,
-    last: Option<&'a T>,
-}
-
-impl<'a, T> Model for Within<'a, T> {
-    ghost use Rattle.std.specs.Prelude.{List};
-    ghost use Rattle.range_collections.specs.Within.{borrowed_items};
-
-    ghost Value = { List T };
-
-    ghost view = { λ it. borrowed_items it.first it.between it.last };
-}
-
-impl<'a, T> Within<'a, T> {
-    // Takes the first boundary out.
-    #[inline(always)]
-    fn take_first(&mut self) -> Option<&'a T>
-        ensures { YieldsFirstBy (λ x. x.now) (λ items. items) self.old result self.new }
-    {
-        if let Some(first) = self.first.take() {
-            return Some(first);
-        }
-        match self.between.take_first() {
-            Some(first) => Some(first),
-            None => self.last.take(),
-        }
-    }
 }

@@ -57,3 +57,5 @@ pub mod Texts
 pub mod Cursors
 pub mod Searched
 pub mod Around
+pub mod ReadInPairs
+pub mod Selected

@@ -36,3 +36,4 @@ pub mod Reading
 pub mod Overlapping
 pub mod ParseErrors
 pub mod Scanning
+pub mod Ended

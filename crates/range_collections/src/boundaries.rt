@@ -1,5 +1,5 @@
 //! The boundaries of a set, wherever they lie, as a question reads them: in a slice, or in chunks.
-ghost use Rattle.std.specs.Prelude.{◌≡◌, ◌≤◌, ◌<◌, ◌-◌, ◌^◌, ◌∷◌, ℕ, List, None, Some, true, length, map, get_or, slice_get, take, drop, option_copied};
+ghost use Rattle.std.specs.Prelude.{◌≡◌, ◌≤◌, ◌<◌, ◌+◌, ◌-◌, ◌^◌, ◌∷◌, ℕ, List, None, Some, true, length, map, get_or, slice_get, take, drop, option_copied};
 ghost use Rattle.std.specs.List.{AllWithin};
 ghost use Rattle.std.specs.Ordering.{is_le};
 ghost use Rattle.std.specs.declared.cmp.Ordering.TheVariants.{Less, Greater};
@@ -29,8 +29,11 @@ pub trait Boundaries<'a, T: Ord + 'a>: Copy {
 
     ghost index: { Self → Self.Position → ℕ };
 
-    // How many comparisons a search makes at most.
+    // How many comparisons a search makes at most, told by the number of boundaries.
     ghost cost: { Self → ℕ };
+
+    // The same, told by what the list is made of.
+    ghost sharp_cost: { Self → ℕ };
 
     /// The position after the boundaries at or below an element.
     fn up_to(&self, value: &T, count: &mut Comparisons) -> Self::Position
@@ -43,7 +46,8 @@ pub trait Boundaries<'a, T: Ord + 'a>: Copy {
         ensures from { AllWithin (λ y. T.cmp y value.now ≡ Greater)
             (items self.now) (index self.now result) (length (items self.now)) }
         ensures cheap { cost self.now < 2 ^ 65 }
-        ensures comparisons { AddsAtMost count.old count.new (cost self.now) };
+        ensures comparisons { AddsAtMost count.old count.new (cost self.now) }
+        ensures sharp { AddsAtMost count.old count.new (sharp_cost self.now) };
 
     /// The position after the boundaries below an element.
     fn below(&self, value: &T, count: &mut Comparisons) -> Self::Position
@@ -56,7 +60,8 @@ pub trait Boundaries<'a, T: Ord + 'a>: Copy {
         ensures from { AllWithin (λ y. is_le (T.cmp value.now y) ≡ true)
             (items self.now) (index self.now result) (length (items self.now)) }
         ensures cheap { cost self.now < 2 ^ 65 }
-        ensures comparisons { AddsAtMost count.old count.new (cost self.now) };
+        ensures comparisons { AddsAtMost count.old count.new (cost self.now) }
+        ensures sharp { AddsAtMost count.old count.new (sharp_cost self.now) };
 
     /// The position before all boundaries.
     fn front(&self) -> Self::Position
@@ -79,6 +84,20 @@ pub trait Boundaries<'a, T: Ord + 'a>: Copy {
         ensures within { index self.now at ≤ length (items self.now) }
         ensures item { option_copied result ≡
             get_or (None ∷ map Some (items self.now)) (index self.now at) None };
+
+    /// The position before the boundary before another one.
+    fn position_before(&self, at: Self::Position) -> Self::Position
+        requires position { is_position self.now at }
+        requires item { 0 < index self.now at }
+        ensures position { is_position self.now result }
+        ensures before { index self.now result + 1 ≡ index self.now at };
+
+    /// The position after the boundary at another one.
+    fn position_after(&self, at: Self::Position) -> Self::Position
+        requires position { is_position self.now at }
+        requires item { index self.now at < length (items self.now) }
+        ensures position { is_position self.now result }
+        ensures after { index self.now result ≡ index self.now at + 1 };
 
     /// The boundaries between two positions.
     fn between(&self, from: Self::Position, to: Self::Position) -> Self::Unread

@@ -7,6 +7,7 @@ ghost use Rattle.range_collections.specs.Ranges.{ranges_of, range_now};
 ghost use Rattle.range_collections.specs.Within.{borrowed_items, with_end};
 
 use crate::lists::is_odd;
+use crate::questions::{Within, take_first};
 use crate::range_set_range::RangeSetRange;
 use std::iter::FusedIterator;
 use std::marker::Model;
@@ -100,43 +101,31 @@ pub type Gaps<'a, T> = RangesWithin<'a, T>;
 /// boundaries that are still unread, of which there is an even number.
 #[derive(Drop)]
 pub struct RangesWithin<'a, T> {
-    unread: Unread<'a, T>,
+    unread: Within<'a, T, &'a [T]>,
 }
 
 impl<'a, T> Model for RangesWithin<'a, T> {
     ghost use Rattle.std.specs.Prelude.{◌≡◌, List, false, length};
     ghost use Rattle.range_merge.specs.Boundaries.{is_odd};
+    ghost use Rattle.range_collections.specs.Within.{borrowed_items};
 
     ghost Value = { List T };
 
-    ghost view = { λ it. it.unread };
+    ghost view = { λ it. borrowed_items it.unread.first it.unread.between.now it.unread.last };
 
-    ghost invariant = { λ it. is_odd (length it.unread) ≡ false };
+    ghost invariant = { λ it. is_odd (length
+        (borrowed_items it.unread.first it.unread.between.now it.unread.last)) ≡ false };
 }
 
 impl<'a, T> RangesWithin<'a, T> {
-    // No range.
+    // The ranges of these boundaries, of which there has to be an even number.
     #[inline(always)]
-    pub(crate) fn nothing() -> Self
-        ensures { result ≡ [] }
+    pub(crate) fn new(unread: Within<'a, T, &'a [T]>) -> Self
+        requires { is_odd (length (borrowed_items unread.first unread.between.now unread.last)) ≡ false }
+        ensures { result ≡
+            borrowed_items unread.entry.first unread.entry.between.now unread.entry.last }
     {
-        Self::new(None, &[], None)
-    }
-
-    // The ranges of these boundaries, of which there has to be an even number: a first one and a
-    // last one where they are given, and those between.
-    #[inline(always)]
-    pub(crate) fn new(first: Option<&'a T>, between: &'a [T], last: Option<&'a T>) -> Self
-        requires { is_odd (length (borrowed_items first between.now last)) ≡ false }
-        ensures { result ≡ borrowed_items first.entry between.now last.entry }
-    {
-        RangesWithin {
-            unread: Unread {
-                first,
-                between,
-                last,
-            },
-        }
+        RangesWithin { unread }
     }
 }
 
@@ -148,47 +137,10 @@ impl<'a, T> Iterator for RangesWithin<'a, T> {
     ghost remaining = { item_count ranges_of };
 
     fn next(&mut self) -> Option<Range<&'a T>> {
-        let start = self.unread.take_first()?;
-        let end = self.unread.take_first()?;
+        let start = take_first(&mut self.unread)?;
+        let end = take_first(&mut self.unread)?;
         Some(Range { start, end })
     }
 }
 
 impl<'a, T> FusedIterator for RangesWithin<'a, T> {}
-
-// Items by reference: a first one, those of a slice, and a last one. A clause reads it as the list
-// of the items.
-#[derive(Drop)]
-struct Unread<'a, T> {
-    first: Option<&'a T>,
-    between: &'a [T],
-    last: Option<&'a T>,
-}
-
-impl<'a, T> Model for Unread<'a, T> {
-    ghost use Rattle.std.specs.Prelude.{List};
-    ghost use Rattle.range_collections.specs.Within.{borrowed_items};
-
-    ghost Value = { List T };
-
-    ghost view = { λ it. borrowed_items it.first it.between.now it.last };
-}
-
-impl<'a, T> Unread<'a, T> {
-    // Takes the first item out.
-    #[inline(always)]
-    fn take_first(&mut self) -> Option<&'a T>
-        ensures { YieldsFirstBy (λ x. x.now) (λ items. items) self.old result self.new }
-    {
-        if let Some(first) = self.first.take() {
-            return Some(first);
-        }
-        match self.between.split_first() {
-            Some((first, rest)) => {
-                self.between = rest;
-                Some(first)
-            }
-            None => self.last.take(),
-        }
-    }
-}

@@ -39,5 +39,6 @@ pub use range_merge::{
 pub use range_set::{RangeSet, RangeSet2, cut_at};
 pub use range_set_range::{RangeSetRange, has_elements, write_range};
 pub use row::{EndedRanges, Row, RowWalk, Until, first_row_between, place_in, walk_to_row};
+pub use text::write_ranges;
 pub use view::{Cursor, RangeSetRef};
 pub use whole_number::WholeNumber;

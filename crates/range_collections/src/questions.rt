@@ -1,9 +1,13 @@
 //! What is asked of boundaries, each question once for every list of them. Most are one search or
 //! two, and none takes memory. The calls of a set pass its own list.
 mod containing;
+mod counting;
 mod next;
+mod parts;
 mod ranges;
 
-pub use containing::{contains, has_all, has_some};
+pub use containing::{contains, has_all, has_some, is_all};
+pub use counting::{covered, rank, select};
 pub use next::{next_at, prev_at};
-pub use ranges::range_at;
+pub use parts::{Within, overlapping, parts_within, take_first};
+pub use ranges::{next_range, range_at};

@@ -7,7 +7,8 @@ ghost use Rattle.range_collections.specs.Text.{AreTexts, others_text, ranges_tex
 
 mod chars;
 
-use crate::iter::Iter;
+use crate::boundaries::Unread;
+use crate::questions::next_range;
 use crate::range_set::RangeSet;
 use crate::range_set_range::write_range;
 use crate::view::RangeSetRef;
@@ -45,38 +46,42 @@ impl<'a, T: Ord + WholeNumber> fmt::Display for RangeSetRef<'a, T> {
     ghost output = { λ set. Some (ranges_text T.digits (ranges_of set.boundaries.now)) };
 
     fn fmt<W: fmt::Write>(&self, f: &mut fmt::Formatter<W>) -> fmt::Result {
-        write_ranges(self.iter(), f)
+        write_ranges(self.boundaries, f)
     }
 }
 
-// The ranges, with a comma and a space between them.
-fn write_ranges<T: fmt::Debug, W: fmt::Write>(
-    mut ranges: Iter<'_, T>,
+/// Writes the ranges of these boundaries, with a comma and a space between them.
+pub fn write_ranges<'a, T: fmt::Debug + 'a, U: Unread<'a, T>, W: fmt::Write>(
+    boundaries: U,
     f: &mut fmt::Formatter<W>,
 ) -> fmt::Result
-    ensures { (text : T → List ℕ) → AreTexts T.debug_output text (ranges_of ranges.entry) →
+    ensures { (text : T → List ℕ) →
+        AreTexts T.debug_output text (ranges_of (U.unread boundaries)) →
         WritesOnOk W.write_str_gives f.old result
-        (ranges_text text (ranges_of ranges.entry)) f.new }
+        (ranges_text text (ranges_of (U.unread boundaries))) f.new }
 {
-    match ranges.next() {
+    let mut unread = boundaries;
+    match next_range(&mut unread) {
         Some(first) => {
             write_range(&first, f)?;
-            write_others(ranges, f)
+            write_others(unread, f)
         }
         None => Ok(()),
     }
 }
 
-// The ranges, each after a comma and a space.
-fn write_others<T: fmt::Debug, W: fmt::Write>(
-    ranges: Iter<'_, T>,
+// Writes the ranges, each after a comma and a space.
+fn write_others<'a, T: fmt::Debug + 'a, U: Unread<'a, T>, W: fmt::Write>(
+    boundaries: U,
     f: &mut fmt::Formatter<W>,
 ) -> fmt::Result
-    ensures { (text : T → List ℕ) → AreTexts T.debug_output text (ranges_of ranges.entry) →
+    ensures { (text : T → List ℕ) →
+        AreTexts T.debug_output text (ranges_of (U.unread boundaries)) →
         WritesOnOk W.write_str_gives f.old result
-        (others_text text (ranges_of ranges.entry)) f.new }
+        (others_text text (ranges_of (U.unread boundaries))) f.new }
 {
-    for range in ranges {
+    let mut unread = boundaries;
+    while let Some(range) = next_range(&mut unread) {
         f.write_str(", ")?;
         write_range(&range, f)?;
     }

@@ -24,6 +24,8 @@ impl<'a, T: Ord> Boundaries<'a, T> for &'a Chunks<T, bool> {
 
     ghost cost = { λ list. digits (length (joined list.now)) + digits 512 };
 
+    ghost sharp_cost = { λ list. digits (length list.now) + digits 512 };
+
     #[inline(always)]
     fn up_to(&self, value: &T, count: &mut Comparisons) -> Place {
         // `len` is called for its clause that it is a `usize`, which the proof cites.
@@ -56,6 +58,16 @@ impl<'a, T: Ord> Boundaries<'a, T> for &'a Chunks<T, bool> {
     #[inline(always)]
     fn item_before(&self, at: Place) -> Option<&'a T> {
         (*self).item_before(at)
+    }
+
+    #[inline(always)]
+    fn position_before(&self, at: Place) -> Place {
+        (*self).place_before(at)
+    }
+
+    #[inline(always)]
+    fn position_after(&self, at: Place) -> Place {
+        (*self).place_after(at)
     }
 
     #[inline(always)]

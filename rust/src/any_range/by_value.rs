@@ -6,9 +6,8 @@ use super::within::up_to;
 use super::NextValue;
 use crate::chunked::ChunkedRangeSet;
 use crate::entry::RangeSetEntry;
-use crate::generated::range_chunks::questions::place_up_to;
 use crate::generated::range_collections::lists::is_odd;
-use crate::generated::range_collections::{Comparisons, FromPlace};
+use crate::generated::range_collections::{Boundaries as _, Comparisons, FromPlace};
 use crate::generated::range_list::{Chunks, Items};
 use crate::iter::shown;
 use crate::map::{Changes, Map};
@@ -83,7 +82,7 @@ impl<T> Clone for Boundaries<'_, T> {
 }
 
 fn chunked_ends<'a, T: Ord>(list: &'a Chunks<T, bool>, value: &T) -> (bool, Boundaries<'a, T>) {
-    let above = place_up_to(list, value, &mut Comparisons::new());
+    let above = list.up_to(value, &mut Comparisons::new());
     let left = list.between(above, list.end());
     (list.mark_at(above), Boundaries(left))
 }

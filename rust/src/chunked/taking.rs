@@ -5,8 +5,7 @@ use crate::any_range::Overlaps;
 use crate::chunks;
 use crate::forms::{ends, fails};
 use crate::generated::range_chunks as proved;
-use crate::generated::range_chunks::questions::place_up_to;
-use crate::generated::range_collections::Comparisons;
+use crate::generated::range_collections::{Boundaries, Comparisons};
 use crate::generated::range_list::FRONT;
 use crate::range::RangeSetRange;
 use crate::range_set::RangeSetRef;
@@ -128,7 +127,7 @@ impl<T: Ord> ChunkedRangeSet<T> {
     /// The ranges from the one that holds the value on, or else from the next one on.
     fn overlapping_from(&self, value: &T) -> Iter<'_, T> {
         let list = &self.0.list;
-        let above = place_up_to(list, value, &mut Comparisons::new());
+        let above = list.up_to(value, &mut Comparisons::new());
         let from = if list.mark_at(above) {
             list.place_before(above)
         } else {

@@ -5,9 +5,8 @@ ghost use Rattle.range_merge.specs.Boundaries.{member};
 ghost use Rattle.range_collections.specs.Covered.{members_below};
 ghost use Rattle.range_collections.specs.Members.{IsPrevious};
 
-use crate::members::{rank, select};
 use crate::set::ChunkedRangeSet;
-use range_collections::questions::prev_at;
+use range_collections::questions::{prev_at, rank, select};
 use range_collections::{Countable, FromPlace};
 
 impl<T: Countable> ChunkedRangeSet<T> {
@@ -57,6 +56,6 @@ impl<T: FromPlace> ChunkedRangeSet<T> {
             members_below T.cmp T.value self.now (T.place at) ≡ k) }
         ensures none { IfNone result (members_below T.cmp T.value self.now T.count ≤ k) }
     {
-        select(&self.list, k)
+        select(self.list.items(), k)
     }
 }

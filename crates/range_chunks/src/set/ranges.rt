@@ -13,15 +13,22 @@ ghost use Rattle.range_collections.specs.Values.{IsEverything};
 ghost use Rattle.range_collections.specs.Within.{GivesParts};
 
 use crate::iter::Iter;
-use crate::overlapping::overlapping;
 use crate::set::ChunkedRangeSet;
-use crate::values::{count_members, is_everything};
+use crate::values::count_members;
 use crate::within::{Gaps, RangesWithin, parts_within};
-use range_collections::questions::range_at;
+use range_collections::questions::{is_all, overlapping, range_at};
 use range_collections::{Comparisons, Countable, RangeSetEntry, RangeSetRange};
+use range_list::Items;
 use std::ops::{Range, RangeFrom};
 
 impl<T: Ord> ChunkedRangeSet<T> {
+    // The boundaries, from the first on.
+    pub(crate) fn items(&self) -> Items<'_, T, bool>
+        ensures { result ≡ self.now }
+    {
+        self.list.items()
+    }
+
     /// The first range, or `None` if the set is empty.
     #[inline]
     pub fn first(&self) -> Option<RangeSetRange<&T>>
@@ -102,7 +109,8 @@ impl<T: Ord> ChunkedRangeSet<T> {
         ensures { ranges_of result ≡ filter
             (overlaps T.cmp range.entry.start.now range.entry.end.now) (ranges_of self.now) }
     {
-        overlapping(&self.list, range.start, range.end)
+        let (from, to) = overlapping(&self.list, range.start, range.end);
+        Iter::between(&self.list, from, to)
     }
 
     /// How many boundaries there are.
@@ -127,7 +135,7 @@ impl<T: RangeSetEntry> ChunkedRangeSet<T> {
     pub fn is_all(&self) -> bool
         ensures { IsTrue result ↔ IsEverything T.cmp T.is_value self.now }
     {
-        is_everything(&self.list)
+        is_all(self.list.items())
     }
 }
 

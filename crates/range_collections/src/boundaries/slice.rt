@@ -20,6 +20,8 @@ impl<'a, T: Ord> Boundaries<'a, T> for &'a [T] {
 
     ghost cost = { λ list. digits (length list.now) };
 
+    ghost sharp_cost = { λ list. digits (length list.now) };
+
     #[inline(always)]
     fn up_to(&self, value: &T, count: &mut Comparisons) -> usize {
         // `len` is called for its clause that it is a `usize`, which the proof cites.
@@ -58,6 +60,18 @@ impl<'a, T: Ord> Boundaries<'a, T> for &'a [T] {
             Some(i) => (*self).get(i),
             None => None,
         }
+    }
+
+    #[inline(always)]
+    fn position_before(&self, at: usize) -> usize {
+        at - 1
+    }
+
+    #[inline(always)]
+    fn position_after(&self, at: usize) -> usize {
+        // `len` is called for its clause that it is a `usize`, which the proof cites.
+        let _length = self.len();
+        at + 1
     }
 
     #[inline(always)]

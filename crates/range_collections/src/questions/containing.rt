@@ -4,10 +4,12 @@ ghost use Rattle.range_merge.specs.Boundaries.{IsAscending, member};
 ghost use Rattle.range_merge.specs.Counting.{AddsAtMost};
 ghost use Rattle.range_collections.specs.Extent.{HasAllWithin};
 ghost use Rattle.range_collections.specs.Intersects.{HasMemberWithin, IsItemBelow};
+ghost use Rattle.range_collections.specs.Values.{IsEverything};
 
-use crate::boundaries::Boundaries;
+use crate::boundaries::{Boundaries, Unread};
 use crate::comparisons::Comparisons;
 use crate::range_set_range::has_elements;
+use range_entry::RangeSetEntry;
 use range_merge::Compare;
 
 /// Whether the element is a member: an odd number of boundaries is at or below it.
@@ -63,6 +65,28 @@ pub fn has_some<'a, T: Ord + 'a, L: Boundaries<'a, T>>(list: L, start: &T, end: 
         return true;
     }
     is_item_below(list, before, end, &mut Comparisons::new())
+}
+
+/// Whether every value is a member.
+#[inline]
+pub fn is_all<'a, T: RangeSetEntry + 'a, U: Unread<'a, T>>(boundaries: U) -> bool
+    requires { IsAscending T.cmp (U.unread boundaries) }
+    ensures { IsTrue result ↔ IsEverything T.cmp T.is_value (U.unread boundaries) }
+{
+    let mut unread = boundaries;
+    let Some(first) = unread.take_first() else {
+        return false;
+    };
+    match unread.take_first() {
+        Some(second) => {
+            second.known();
+            false
+        }
+        None => {
+            first.known();
+            first.is_min_value()
+        }
+    }
 }
 
 // Whether there is a boundary at a position, and it is below `end`.

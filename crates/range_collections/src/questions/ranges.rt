@@ -1,10 +1,11 @@
-//! The range at an element.
+//! The range at an element, and boundaries taken two by two.
 ghost use Rattle.std.specs.Prelude.{◌≡◌, ◌↔◌, ◌<◌, ◌+◌, ◌-◌, ◌∷◌, ◌^◌, true, drop, Contains, IsSome, IfSome, MatchOption};
+ghost use Rattle.std.specs.Iterator.{YieldsFirstBy};
 ghost use Rattle.range_merge.specs.Boundaries.{IsAscending, member};
 ghost use Rattle.range_merge.specs.Counting.{AddsAtMost};
 ghost use Rattle.range_collections.specs.Ranges.{ranges_of, range_now, IsInRange};
 
-use crate::boundaries::Boundaries;
+use crate::boundaries::{Boundaries, Unread};
 use crate::comparisons::Comparisons;
 use crate::range_set_range::RangeSetRange;
 use std::ops::{Range, RangeFrom};
@@ -31,6 +32,18 @@ pub fn range_at<'a, T: Ord + 'a, L: Boundaries<'a, T>>(
         return None;
     }
     range_around(list, after)
+}
+
+/// Takes the first range out of boundaries that are still unread.
+#[inline(always)]
+pub fn next_range<'a, T: 'a, U: Unread<'a, T>>(unread: &mut U) -> Option<RangeSetRange<&'a T>>
+    ensures { YieldsFirstBy range_now (λ it. ranges_of (U.unread it)) unread.old result unread.new }
+{
+    let start = unread.take_first()?;
+    match unread.take_first() {
+        Some(end) => Some(RangeSetRange::Range(Range { start, end })),
+        None => Some(RangeSetRange::RangeFrom(RangeFrom { start })),
+    }
 }
 
 // The range that starts with the boundary before a position, or `None` at the front.

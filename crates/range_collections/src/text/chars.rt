@@ -13,7 +13,7 @@ impl<const N: usize> fmt::Debug for RangeSet<char, N> {
 
     fn fmt<W: fmt::Write>(&self, f: &mut fmt::Formatter<W>) -> fmt::Result {
         f.write_str("RangeSet{")?;
-        write_ranges(self.as_ref().iter(), f)?;
+        write_ranges(self.as_ref().boundaries, f)?;
         f.write_str("}")
     }
 }
@@ -37,7 +37,7 @@ impl<'a> fmt::Display for RangeSetRef<'a, char> {
         if_ascii set.boundaries.now (ranges_text quoted (ranges_of set.boundaries.now)) };
 
     fn fmt<W: fmt::Write>(&self, f: &mut fmt::Formatter<W>) -> fmt::Result {
-        write_ranges(self.iter(), f)
+        write_ranges(self.boundaries, f)
     }
 }
 

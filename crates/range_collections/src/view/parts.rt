@@ -13,10 +13,9 @@ ghost use Rattle.range_merge.specs.Boundaries.{member};
 
 use crate::comparisons::Comparisons;
 use crate::iter::{Gaps, Iter, RangesWithin};
-use crate::lists::is_odd;
-use crate::range_set_range::has_elements;
+use crate::questions::{overlapping, parts_within};
 use crate::view::RangeSetRef;
-use range_merge::{count_up_to, search};
+use range_merge::search;
 use std::ops::Range;
 
 impl<'a, T: Ord> RangeSetRef<'a, T> {
@@ -157,14 +156,8 @@ impl<'a, T: Ord> RangeSetRef<'a, T> {
             (overlaps T.cmp range.entry.start.now range.entry.end.now)
             (ranges_of self.now.boundaries.now) }
     {
-        if !has_elements(range.start, range.end, &mut Comparisons::new()) {
-            return Iter::new(&[]);
-        }
-        let from = count_up_to(self.boundaries, range.start, &mut Comparisons::new());
-        let to = self.count_below(range.end, &mut Comparisons::new());
-        // A range starts at an even index and ends at an odd one.
-        let end = self.boundaries.len().min(to.saturating_add(to % 2));
-        Iter::new(&self.boundaries[from - from % 2..end])
+        let (from, to) = overlapping(self.boundaries, range.start, range.end);
+        Iter::new(&self.boundaries[from..to])
     }
 
     // The parts of `within` whose elements are members where `inside` is true, or else no members.
@@ -180,13 +173,6 @@ impl<'a, T: Ord> RangeSetRef<'a, T> {
         ensures comparisons { AddsAtMost count.old count.new
             (2 * digits (length self.now.boundaries.now) + 1) }
     {
-        if !has_elements(within.start, within.end, count) {
-            return RangesWithin::nothing();
-        }
-        let from = count_up_to(self.boundaries, within.start, count);
-        let to = self.count_below(within.end, count);
-        let first = (is_odd(from) == inside).then_some(within.start);
-        let last = (is_odd(to) == inside).then_some(within.end);
-        RangesWithin::new(first, &self.boundaries[from..to], last)
+        RangesWithin::new(parts_within(self.boundaries, within, inside, count))
     }
 }

@@ -10,8 +10,7 @@ ghost use Rattle.range_collections.specs.Sets.{IsSubset, Intersects, IsDisjoint,
 ghost use Rattle.range_collections.specs.Values.{IsEverything};
 
 use crate::comparisons::Comparisons;
-use crate::lists::begins_at_least;
-use crate::questions::contains;
+use crate::questions::{contains, is_all};
 use crate::view::RangeSetRef;
 use range_entry::RangeSetEntry;
 use range_merge::laws::changes_mean_the_connective;
@@ -126,12 +125,6 @@ impl<'a, T: RangeSetEntry> RangeSetRef<'a, T> {
     pub fn is_all(&self) -> bool
         ensures { IsTrue result ↔ IsEverything T.cmp T.is_value self.now.boundaries.now }
     {
-        match self.boundaries.get(1) {
-            Some(second) => {
-                second.known();
-                false
-            }
-            None => begins_at_least(self.boundaries),
-        }
+        is_all(self.boundaries)
     }
 }

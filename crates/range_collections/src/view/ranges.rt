@@ -1,9 +1,8 @@
 //! The ranges of a view: all of them, the first and the last, the one at an element; and one range
 //! of elements against the view.
-ghost use Rattle.std.specs.Prelude.{◌≡◌, ◌↔◌, IsTrue, [], length, min, None, Some, MatchOption, slice_get, ◌+◌, ◌*◌, ◌<◌, ◌≤◌, ◌^◌, true, Contains, IsSome, IfSome, false, IfNone};
-ghost use Rattle.std.specs.List.{last_or, AllWithin};
+ghost use Rattle.std.specs.Prelude.{◌≡◌, ◌↔◌, IsTrue, [], length, min, None, Some, MatchOption, slice_get, ◌+◌, ◌<◌, ◌^◌, true, Contains, IsSome, IfSome, false, IfNone};
+ghost use Rattle.std.specs.List.{last_or};
 ghost use Rattle.std.specs.Ordering.{is_le};
-ghost use Rattle.std.specs.declared.cmp.Ordering.TheVariants.{Less};
 ghost use Rattle.range_merge.specs.Boundaries.{member};
 ghost use Rattle.range_merge.specs.Counting.{AddsAtMost};
 ghost use Rattle.range_merge.specs.Runs.{digits};
@@ -16,7 +15,6 @@ use crate::iter::Iter;
 use crate::questions::{has_all, has_some, next_at, range_at};
 use crate::range_set_range::RangeSetRange;
 use crate::view::RangeSetRef;
-use range_merge::search;
 use std::ops::{Range, RangeFrom};
 
 impl<'a, T: Ord> RangeSetRef<'a, T> {
@@ -166,24 +164,6 @@ impl<'a, T: Ord> RangeSetRef<'a, T> {
             HasMemberWithin T.cmp self.now.boundaries.now range.start range.end }
     {
         has_some(self.boundaries, &range.start, &range.end)
-    }
-
-    // How many boundaries are below `value`.
-    #[inline(always)]
-    pub(super) fn count_below(&self, value: &T, count: &mut Comparisons) -> usize
-        requires { count.old < 2 ^ 127 }
-        ensures within { result ≤ length self.now.boundaries.now }
-        ensures before { AllWithin (λ y. T.cmp y value.now ≡ Less)
-            self.now.boundaries.now 0 result }
-        ensures from { AllWithin (λ y. is_le (T.cmp value.now y) ≡ true)
-            self.now.boundaries.now result (length self.now.boundaries.now) }
-        ensures comparisons { AddsAtMost count.old count.new
-            (digits (length self.now.boundaries.now)) }
-    {
-        match search(self.boundaries, value, count) {
-            Ok(i) => i,
-            Err(i) => i,
-        }
     }
 }
 

@@ -1,18 +1,14 @@
 //! The members of a view by rank and one by one, of values that stand in a row.
-ghost use Rattle.std.specs.Prelude.{◌≡◌, ◌<◌, ◌≤◌, IfSome, IfNone, MatchOption, true, false};
+ghost use Rattle.std.specs.Prelude.{◌≡◌, ◌<◌, ◌≤◌, IfSome, IfNone, true, false};
 ghost use Rattle.std.specs.Ordering.{is_le};
-ghost use Rattle.range_merge.specs.Boundaries.{IsAscending, member};
+ghost use Rattle.range_merge.specs.Boundaries.{member};
 ghost use Rattle.range_collections.specs.Covered.{members_below};
 ghost use Rattle.range_collections.specs.Members.{IsPrevious, members_of};
 
-use crate::comparisons::Comparisons;
 use crate::countable::{Countable, FromPlace};
-use crate::lists::is_odd;
 use crate::members::Members;
-use crate::questions::prev_at;
+use crate::questions::{prev_at, rank, select};
 use crate::view::RangeSetRef;
-use crate::view::counting::{between, count_members};
-use range_merge::count_up_to;
 
 impl<'a, T: Countable> RangeSetRef<'a, T> {
     /// How many members are below `at`.
@@ -23,14 +19,7 @@ impl<'a, T: Countable> RangeSetRef<'a, T> {
         ensures value { result ≡
             members_below T.cmp T.value self.now.boundaries.now (T.place at.now) }
     {
-        let before = count_up_to(self.boundaries, at, &mut Comparisons::new());
-        at.known();
-        if !is_odd(before) {
-            return count_members(&self.boundaries[..before]);
-        }
-        let start = &self.boundaries[before - 1];
-        start.known();
-        count_members(&self.boundaries[..before - 1]) + (at.place() - start.place())
+        rank(self.boundaries, at)
     }
 }
 
@@ -75,7 +64,7 @@ impl<'a, T: FromPlace> RangeSetRef<'a, T> {
         ensures none { IfNone result
             (members_below T.cmp T.value self.now.boundaries.now T.count ≤ k) }
     {
-        nth_member(self.boundaries, k)
+        select(self.boundaries, k)
     }
 
     /// The members one by one, from the lowest on or from the highest down.
@@ -86,29 +75,4 @@ impl<'a, T: FromPlace> RangeSetRef<'a, T> {
     {
         Members::new(self.boundaries)
     }
-}
-
-// The member of a strictly sorted list of boundaries with `k` members below it, if there is one.
-fn nth_member<T: FromPlace>(items: &[T], k: u128) -> Option<T>
-    requires { IsAscending T.cmp items.now }
-    ensures value { IfSome result T.is_value }
-    ensures member { IfSome result (λ at. member T.cmp items.now at ≡ true) }
-    ensures rank { IfSome result (λ at.
-        members_below T.cmp T.value items.now (T.place at) ≡ k) }
-    ensures none { IfNone result (members_below T.cmp T.value items.now T.count ≤ k) }
-{
-    let mut left = k;
-    let mut i = 0;
-    while items.len() - i >= 2 {
-        let start = &items[i];
-        let values = between(start, &items[i + 1]);
-        if left < values {
-            return T::from_place(start.place() + left);
-        }
-        left -= values;
-        i += 2;
-    }
-    let start = items.get(i)?;
-    start.known();
-    T::from_place(start.place().checked_add(left)?)
 }

@@ -40,14 +40,6 @@ impl<'a, T> Iter<'a, T> {
         }
     }
 
-    // No range.
-    pub(crate) fn nothing() -> Self {
-        Iter {
-            unread: Items::none(),
-            endless: false,
-        }
-    }
-
     // The ranges of the boundaries between two places, of which the first doesn't lie in a range.
     pub(crate) fn between(list: &'a Chunks<T, bool>, from: Place, to: Place) -> Self {
         Iter {

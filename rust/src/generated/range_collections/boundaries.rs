@@ -31,6 +31,7 @@ pub trait Boundaries<'a, T: Ord + 'a>: Copy {
     ///     result) (length (items self.now))
     /// ensures cheap: cost self.now < 2 ^ 65
     /// ensures comparisons: AddsAtMost count.old count.new (cost self.now)
+    /// ensures sharp: AddsAtMost count.old count.new (sharp_cost self.now)
     /// ```
     fn up_to(&self, value: &T, count: &mut Comparisons) -> Self::Position;
 
@@ -49,6 +50,7 @@ pub trait Boundaries<'a, T: Ord + 'a>: Copy {
     ///     self.now result) (length (items self.now))
     /// ensures cheap: cost self.now < 2 ^ 65
     /// ensures comparisons: AddsAtMost count.old count.new (cost self.now)
+    /// ensures sharp: AddsAtMost count.old count.new (sharp_cost self.now)
     /// ```
     fn below(&self, value: &T, count: &mut Comparisons) -> Self::Position;
 
@@ -93,6 +95,30 @@ pub trait Boundaries<'a, T: Ord + 'a>: Copy {
     ///     self.now at) None
     /// ```
     fn item_before(&self, at: Self::Position) -> Option<&'a T>;
+
+    /// The position before the boundary before another one.
+    ///
+    /// # Contract
+    ///
+    /// ```text
+    /// requires position: is_position self.now at
+    /// requires item: 0 < index self.now at
+    /// ensures position: is_position self.now result
+    /// ensures before: index self.now result + 1 ≡ index self.now at
+    /// ```
+    fn position_before(&self, at: Self::Position) -> Self::Position;
+
+    /// The position after the boundary at another one.
+    ///
+    /// # Contract
+    ///
+    /// ```text
+    /// requires position: is_position self.now at
+    /// requires item: index self.now at < length (items self.now)
+    /// ensures position: is_position self.now result
+    /// ensures after: index self.now result ≡ index self.now at + 1
+    /// ```
+    fn position_after(&self, at: Self::Position) -> Self::Position;
 
     /// The boundaries between two positions.
     ///

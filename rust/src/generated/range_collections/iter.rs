@@ -3,6 +3,7 @@
 //! within two ends, each of which has an end.
 
 use crate::generated::range_collections::lists::is_odd;
+use crate::generated::range_collections::questions::{take_first, Within};
 use crate::generated::range_collections::range_set_range::RangeSetRange;
 use crate::support::DivUp;
 use core::iter::FusedIterator;
@@ -87,7 +88,7 @@ pub type Gaps<'a, T> = RangesWithin<'a, T>;
 /// The parts of a range that are in a set, from the lowest on. A clause reads it as the list of the
 /// boundaries that are still unread, of which there is an even number.
 pub struct RangesWithin<'a, T> {
-    unread: Unread<'a, T>,
+    unread: Within<'a, T, &'a [T]>,
 }
 
 impl<'a, T> Clone for RangesWithin<'a, T> {
@@ -100,23 +101,10 @@ impl<'a, T> Clone for RangesWithin<'a, T> {
 }
 
 impl<'a, T> RangesWithin<'a, T> {
-    // No range.
+    // The ranges of these boundaries, of which there has to be an even number.
     #[inline(always)]
-    pub(crate) fn nothing() -> Self {
-        Self::new(None, &[], None)
-    }
-
-    // The ranges of these boundaries, of which there has to be an even number: a first one and a
-    // last one where they are given, and those between.
-    #[inline(always)]
-    pub(crate) fn new(first: Option<&'a T>, between: &'a [T], last: Option<&'a T>) -> Self {
-        RangesWithin {
-            unread: Unread {
-                first,
-                between,
-                last,
-            },
-        }
+    pub(crate) fn new(unread: Within<'a, T, &'a [T]>) -> Self {
+        RangesWithin { unread }
     }
 }
 
@@ -124,46 +112,10 @@ impl<'a, T> Iterator for RangesWithin<'a, T> {
     type Item = Range<&'a T>;
 
     fn next(&mut self) -> Option<Range<&'a T>> {
-        let start = self.unread.take_first()?;
-        let end = self.unread.take_first()?;
+        let start = take_first(&mut self.unread)?;
+        let end = take_first(&mut self.unread)?;
         Some(Range { start, end })
     }
 }
 
 impl<'a, T> FusedIterator for RangesWithin<'a, T> {}
-
-// Items by reference: a first one, those of a slice, and a last one. A clause reads it as the list
-// of the items.
-struct Unread<'a, T> {
-    first: Option<&'a T>,
-    between: &'a [T],
-    last: Option<&'a T>,
-}
-
-impl<'a, T> Clone for Unread<'a, T> {
-    #[inline]
-    fn clone(&self) -> Self {
-        Unread {
-            first: Clone::clone(&self.first),
-            between: Clone::clone(&self.between),
-            last: Clone::clone(&self.last),
-        }
-    }
-}
-
-impl<'a, T> Unread<'a, T> {
-    // Takes the first item out.
-    #[inline(always)]
-    fn take_first(&mut self) -> Option<&'a T> {
-        if let Some(first) = self.first.take() {
-            return Some(first);
-        }
-        match self.between.split_first() {
-            Some((first, rest)) => {
-                self.between = rest;
-                Some(first)
-            }
-            None => self.last.take(),
-        }
-    }
-}

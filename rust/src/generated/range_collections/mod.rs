@@ -37,5 +37,6 @@ pub(crate) use range_set_range::has_elements;
 pub use range_set_range::{write_range, RangeSetRange};
 pub(crate) use row::{first_row_between, place_in, walk_to_row};
 pub use row::{EndedRanges, Row, RowWalk, Until};
+pub use text::write_ranges;
 pub use view::{Cursor, RangeSetRef};
 pub use whole_number::WholeNumber;

@@ -3,9 +3,15 @@
 //! two, and none takes memory. The calls of a set pass its own list.
 
 pub(crate) mod containing;
+pub(crate) mod counting;
 pub(crate) mod next;
+pub(crate) mod parts;
 pub(crate) mod ranges;
 
-pub(crate) use containing::{contains, has_all, has_some};
+pub(crate) use containing::{contains, has_all, has_some, is_all};
+pub(crate) use counting::{covered, rank, select};
 pub(crate) use next::{next_at, prev_at};
+pub use parts::Within;
+pub(crate) use parts::{overlapping, parts_within, take_first};
+pub use ranges::next_range;
 pub(crate) use ranges::range_at;

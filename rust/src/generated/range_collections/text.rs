@@ -2,7 +2,8 @@
 //! The Debug and the Display text of a set: its ranges, as `0..10, 20..`, and no character for the
 //! empty set.
 
-use crate::generated::range_collections::iter::Iter;
+use crate::generated::range_collections::boundaries::Unread;
+use crate::generated::range_collections::questions::next_range;
 use crate::generated::range_collections::range_set::RangeSet;
 use crate::generated::range_collections::range_set_range::write_range;
 use crate::generated::range_collections::view::RangeSetRef;
@@ -17,24 +18,40 @@ impl<T: Ord + WholeNumber, const N: usize> fmt::Display for RangeSet<T, N> {
 
 impl<'a, T: Ord + WholeNumber> fmt::Display for RangeSetRef<'a, T> {
     fn fmt(&self, f: &mut fmt::Formatter<'_>) -> fmt::Result {
-        write_ranges(self.iter(), f)
+        write_ranges(self.boundaries, f)
     }
 }
 
-// The ranges, with a comma and a space between them.
-fn write_ranges<T: fmt::Debug>(mut ranges: Iter<'_, T>, f: &mut fmt::Formatter<'_>) -> fmt::Result {
-    match ranges.next() {
+/// Writes the ranges of these boundaries, with a comma and a space between them.
+///
+/// # Contract
+///
+/// ```text
+/// ensures (text : T → List ℕ) → AreTexts T.debug_output text (ranges_of (U.unread boundaries))
+///     → WritesOnOk W.write_str_gives f.old result (ranges_text text (ranges_of (U.unread
+///     boundaries))) f.new
+/// ```
+pub fn write_ranges<'a, T: fmt::Debug + 'a, U: Unread<'a, T>>(
+    boundaries: U,
+    f: &mut fmt::Formatter<'_>,
+) -> fmt::Result {
+    let mut unread = boundaries;
+    match next_range(&mut unread) {
         Some(first) => {
             write_range(&first, f)?;
-            write_others(ranges, f)
+            write_others(unread, f)
         }
         None => Ok(()),
     }
 }
 
-// The ranges, each after a comma and a space.
-fn write_others<T: fmt::Debug>(ranges: Iter<'_, T>, f: &mut fmt::Formatter<'_>) -> fmt::Result {
-    for range in ranges {
+// Writes the ranges, each after a comma and a space.
+fn write_others<'a, T: fmt::Debug + 'a, U: Unread<'a, T>>(
+    boundaries: U,
+    f: &mut fmt::Formatter<'_>,
+) -> fmt::Result {
+    let mut unread = boundaries;
+    while let Some(range) = next_range(&mut unread) {
         f.write_str(", ")?;
         write_range(&range, f)?;
     }

@@ -44,6 +44,16 @@ impl<'a, T: Ord> Boundaries<'a, T> for &'a Chunks<T, bool> {
     }
 
     #[inline(always)]
+    fn position_before(&self, at: Place) -> Place {
+        (*self).place_before(at)
+    }
+
+    #[inline(always)]
+    fn position_after(&self, at: Place) -> Place {
+        (*self).place_after(at)
+    }
+
+    #[inline(always)]
     fn between(&self, from: Place, to: Place) -> Items<'a, T, bool> {
         (*self).between(from, to)
     }

@@ -3,11 +3,10 @@
 //! share an element with a range, and the parts of a range that are in the set or not.
 
 use crate::generated::range_chunks::iter::Iter;
-use crate::generated::range_chunks::overlapping::overlapping;
 use crate::generated::range_chunks::set::ChunkedRangeSet;
-use crate::generated::range_chunks::values::{count_members, is_everything};
+use crate::generated::range_chunks::values::count_members;
 use crate::generated::range_chunks::within::{parts_within, Gaps, RangesWithin};
-use crate::generated::range_collections::questions::range_at;
+use crate::generated::range_collections::questions::{is_all, overlapping, range_at};
 use crate::generated::range_collections::{Comparisons, Countable, RangeSetEntry, RangeSetRange};
 use crate::support::DivUp;
 use core::ops::{Range, RangeFrom};
@@ -119,7 +118,8 @@ impl<T: Ord> ChunkedRangeSet<T> {
     /// ```
     #[inline]
     pub fn overlapping(&self, range: Range<&T>) -> Iter<'_, T> {
-        overlapping(&self.list, range.start, range.end)
+        let (from, to) = overlapping(&self.list, range.start, range.end);
+        Iter::between(&self.list, from, to)
     }
 
     /// How many boundaries there are.
@@ -156,7 +156,7 @@ impl<T: RangeSetEntry> ChunkedRangeSet<T> {
     /// ensures IsTrue result ↔ IsEverything T.cmp T.is_value self.now
     /// ```
     pub fn is_all(&self) -> bool {
-        is_everything(&self.list)
+        is_all(self.list.items())
     }
 }
 

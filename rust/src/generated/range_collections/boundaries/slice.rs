@@ -48,6 +48,16 @@ impl<'a, T: Ord> Boundaries<'a, T> for &'a [T] {
     }
 
     #[inline(always)]
+    fn position_before(&self, at: usize) -> usize {
+        at - 1
+    }
+
+    #[inline(always)]
+    fn position_after(&self, at: usize) -> usize {
+        at + 1
+    }
+
+    #[inline(always)]
     fn between(&self, from: usize, to: usize) -> &'a [T] {
         &(*self)[from..to]
     }

@@ -2,7 +2,7 @@
 //! How many values are members of a view: the lengths of its ranges, added up.
 
 use crate::generated::range_collections::countable::Countable;
-use crate::generated::range_collections::lists::is_odd;
+use crate::generated::range_collections::questions::covered;
 use crate::generated::range_collections::view::RangeSetRef;
 
 impl<'a, T: Countable> RangeSetRef<'a, T> {
@@ -18,25 +18,6 @@ impl<'a, T: Countable> RangeSetRef<'a, T> {
     /// ensures value: result ≡ covered_of T.cmp T.value T.count self.now.boundaries.now
     /// ```
     pub fn covered(&self) -> Option<u128> {
-        if is_odd(self.boundaries.len()) {
-            return None;
-        }
-        Some(count_members(self.boundaries))
+        covered(self.boundaries)
     }
-}
-
-// How many values are members, of a list of boundaries in pairs.
-pub(super) fn count_members<T: Countable>(items: &[T]) -> u128 {
-    let mut count: u128 = 0;
-    let mut i = 0;
-    while i < items.len() {
-        count += between(&items[i], &items[i + 1]);
-        i += 2;
-    }
-    count
-}
-
-// How many values lie from one on, up to another, which is out.
-pub(super) fn between<T: Countable>(start: &T, end: &T) -> u128 {
-    end.place() - start.place()
 }

@@ -4,10 +4,9 @@
 
 use crate::generated::range_collections::comparisons::Comparisons;
 use crate::generated::range_collections::iter::{Gaps, Iter, RangesWithin};
-use crate::generated::range_collections::lists::is_odd;
-use crate::generated::range_collections::range_set_range::has_elements;
+use crate::generated::range_collections::questions::{overlapping, parts_within};
 use crate::generated::range_collections::view::RangeSetRef;
-use crate::generated::range_merge::{count_up_to, search};
+use crate::generated::range_merge::search;
 use core::ops::Range;
 
 impl<'a, T: Ord> RangeSetRef<'a, T> {
@@ -164,14 +163,8 @@ impl<'a, T: Ord> RangeSetRef<'a, T> {
     /// ```
     #[inline]
     pub fn overlapping(&self, range: Range<&T>) -> Iter<'a, T> {
-        if !has_elements(range.start, range.end, &mut Comparisons::new()) {
-            return Iter::new(&[]);
-        }
-        let from = count_up_to(self.boundaries, range.start, &mut Comparisons::new());
-        let to = self.count_below(range.end, &mut Comparisons::new());
-        // A range starts at an even index and ends at an odd one.
-        let end = self.boundaries.len().min(to.saturating_add(to % 2));
-        Iter::new(&self.boundaries[from - from % 2..end])
+        let (from, to) = overlapping(self.boundaries, range.start, range.end);
+        Iter::new(&self.boundaries[from..to])
     }
 
     // The parts of `within` whose elements are members where `inside` is true, or else no members.
@@ -181,13 +174,6 @@ impl<'a, T: Ord> RangeSetRef<'a, T> {
         inside: bool,
         count: &mut Comparisons,
     ) -> RangesWithin<'a, T> {
-        if !has_elements(within.start, within.end, count) {
-            return RangesWithin::nothing();
-        }
-        let from = count_up_to(self.boundaries, within.start, count);
-        let to = self.count_below(within.end, count);
-        let first = (is_odd(from) == inside).then_some(within.start);
-        let last = (is_odd(to) == inside).then_some(within.end);
-        RangesWithin::new(first, &self.boundaries[from..to], last)
+        RangesWithin::new(parts_within(self.boundaries, within, inside, count))
     }
 }

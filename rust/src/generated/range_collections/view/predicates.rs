@@ -3,8 +3,7 @@
 //! whether a set has every value. Nothing here takes memory.
 
 use crate::generated::range_collections::comparisons::Comparisons;
-use crate::generated::range_collections::lists::begins_at_least;
-use crate::generated::range_collections::questions::contains;
+use crate::generated::range_collections::questions::{contains, is_all};
 use crate::generated::range_collections::view::RangeSetRef;
 use crate::generated::range_entry::RangeSetEntry;
 use crate::generated::range_merge::{
@@ -154,9 +153,6 @@ impl<'a, T: RangeSetEntry> RangeSetRef<'a, T> {
     /// ensures IsTrue result ↔ IsEverything T.cmp T.is_value self.now.boundaries.now
     /// ```
     pub fn is_all(&self) -> bool {
-        match self.boundaries.get(1) {
-            Some(second) => false,
-            None => begins_at_least(self.boundaries),
-        }
+        is_all(self.boundaries)
     }
 }

@@ -7,7 +7,6 @@ use crate::generated::range_collections::iter::Iter;
 use crate::generated::range_collections::questions::{has_all, has_some, next_at, range_at};
 use crate::generated::range_collections::range_set_range::RangeSetRange;
 use crate::generated::range_collections::view::RangeSetRef;
-use crate::generated::range_merge::search;
 use core::ops::{Range, RangeFrom};
 
 impl<'a, T: Ord> RangeSetRef<'a, T> {
@@ -198,15 +197,6 @@ impl<'a, T: Ord> RangeSetRef<'a, T> {
     #[inline]
     pub fn intersects_range(&self, range: Range<T>) -> bool {
         has_some(self.boundaries, &range.start, &range.end)
-    }
-
-    // How many boundaries are below `value`.
-    #[inline(always)]
-    pub(super) fn count_below(&self, value: &T, count: &mut Comparisons) -> usize {
-        match search(self.boundaries, value, count) {
-            Ok(i) => i,
-            Err(i) => i,
-        }
     }
 }
 

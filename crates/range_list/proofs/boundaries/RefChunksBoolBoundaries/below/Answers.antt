@@ -22,3 +22,9 @@ returns-clause-comparisons g c = record {
   at_least = c.place_below.ensures.comparisons.at_least;
   at_most = omega (arith, c.place_below.ensures.comparisons.at_most, digits-rest, digits-mono (length c.args.self.now.now) (length (joined c.args.self.now.now)) c.place_below.ensures.fewer);
 }
+
+pub returns-clause-sharp : goal.returns-clause-sharp
+returns-clause-sharp g c = record {
+  at_least = c.place_below.ensures.comparisons.at_least;
+  at_most = omega (arith, c.place_below.ensures.comparisons.at_most, digits-rest);
+}
