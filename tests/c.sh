@@ -140,16 +140,34 @@ compiles_statements() {
         g++ -std=c++17 $strict -x c++ -c "$work/lines.c" -o "$work/lines.o"
 }
 
-# Runs the lines in C of a page, word for word, as a program of their own.
+# Runs each block in C or C++ of a page, word for word: as a program of its own, or where it has no `main` as the lines of one.
 runs_page() {
-    awk '/^```/ { on = $0 == "```c"; next } on' "$1" >"$work/page.c"
-    [ -s "$work/page.c" ] && compiles "$work/page.c" page && "$work/page"
+    local page=$1 language=$2 block
+    rm -rf "$work/blocks" && mkdir "$work/blocks" && awk -v opens="\`\`\`$language" -v to="$work/blocks/" \
+        '/^```/ { on = $0 == opens; n += on; next } on { print >(to n) }' "$page" && [ -s "$work/blocks/1" ] || return
+    for block in "$work/blocks"/*; do
+        if ! grep -q '^int main' "$block"; then
+            {
+                printf '#include <%s>\n' $([ "$language" = c ] && echo range_set.h || echo range_map.hpp) assert.h
+                grep '^#include' "$block"
+                echo 'int main(void) {' && grep -v '^#include' "$block" && echo '}'
+            } >"$work/body" && mv "$work/body" "$block"
+        fi
+        mv "$block" "$work/page.$language"
+        case $language in
+            c) compiles "$work/page.c" page ;;
+            cpp) g++ -std=c++17 $strict "$work/page.cpp" "$archive" -o "$work/page" ;;
+        esac && "$work/page" || return
+    done
 }
 
-# The same in C++.
-runs_cpp_page() {
-    awk '/^```/ { on = $0 == "```cpp"; next } on' "$1" >"$work/page.cpp"
-    [ -s "$work/page.cpp" ] && g++ -std=c++17 $strict "$work/page.cpp" "$archive" -o "$work/page" && "$work/page"
+# The program and the lines for CMake of a page, over what was installed.
+runs_page_by_cmake() {
+    local page=$1 language=$2 folder="$work/page by cmake"
+    rm -rf "$folder" && mkdir "$folder" && awk -v to="$folder/my_program.$language" -v opens="\`\`\`$language" \
+        '/^```/ { on = $0 == opens && !n++; next } on { print >to }' "$page" &&
+        awk '/^```/ { on = $0 == "```cmake"; next } on' "$page" >"$folder/CMakeLists.txt" &&
+        cmake -S "$folder" -B "$folder/build" -DCMAKE_PREFIX_PATH="$prefix" && cmake --build "$folder/build" && "$folder/build/my_program"
 }
 
 # The header in C++11, and the example in it.
@@ -183,7 +201,8 @@ installs() {
     rm -rf "$work/c" "$prefix" && cp -r c LICENSE-* "$work" && rm -rf "$work/c/build" && make -s -C "$work/c" install "${makes[@]}" PREFIX="$work/its place" &&
         mv "$work/its place" "$prefix" &&
         cmp LICENSE-MIT "$prefix/share/doc/range_set/LICENSE-MIT" &&
-        cmp LICENSE-APACHE "$prefix/share/doc/range_set/LICENSE-APACHE"
+        cmp LICENSE-APACHE "$prefix/share/doc/range_set/LICENSE-APACHE" &&
+        cmp c/CPP.md "$prefix/share/doc/range_set/CPP.md"
 }
 
 # Installs the library below a root that a package is made of, whose files may not name it.
@@ -462,7 +481,7 @@ step "the example compiles" compiles c/examples/download.c example
 step "the example" prints_its_lines example
 step "an allocator of addresses" runs_the_allocator
 step_by g++ g++ "a calendar in C++" runs_the_calendar
-step "the lines in C of c/README.md" runs_page c/README.md
+step "the lines in C of c/README.md" runs_page c/README.md c
 step_by g++ g++ "the statements in c/README.md" compiles_statements c/README.md
 step_by objcopy binutils "the sanitizers" is_sane
 step_by g++ g++ "C++11" compiles_as_cpp
@@ -479,8 +498,8 @@ step_by g++ g++ "a set of numbers that would be cut" isnt_compiled 'no matching 
     '#include "range_set.hpp"' '#include <vector>' 'range_sets::range_set<int> set(std::vector<std::pair<double, double>>{{0.5, 2.9}});'
 step_by g++ g++ "a set of values that would be cut" isnt_compiled 'no matching function for call to .*from_values(' \
     '#include "range_set.hpp"' '#include <vector>' 'auto set = range_sets::range_set<int>::from_values(std::vector<double>{2.9});'
-for page in README.md c/README.md; do
-    step_by g++ g++ "the lines in C++ of $page" runs_cpp_page "$page"
+for page in README.md c/CPP.md; do
+    step_by g++ g++ "the lines in C++ of $page" runs_page "$page" cpp
 done
 archive=dist/librange_set.a
 step_by make make "make install" installs
@@ -488,6 +507,8 @@ step_by make make "make install below a DESTDIR" installs_below
 over_install pkg-config pkg-config "a program by pkg-config" is_found_by_pkg_config
 over_install pkg-config pkg-config "a program in C++ by pkg-config" is_found_in_cpp
 over_install cmake cmake "a program by CMake" is_found_by_cmake
+over_install cmake cmake "the program of c/README.md by its CMake" runs_page_by_cmake c/README.md c
+over_install cmake cmake "the program of c/CPP.md by its CMake" runs_page_by_cmake c/CPP.md cpp
 over_install readelf binutils "the shared library" is_shared
 over_install g++ g++ "the installed headers in C++" takes_the_installed_headers
 step "what isn't called is dropped" drops_what_is_not_called

@@ -62,10 +62,8 @@ PROVED = ("range_merge", "range_entry", "range_collections", "range_list", "rang
 # What a crate exports; what declares a call in Rattle: the type or trait that it belongs to, if any, and its name.
 EXPORTED = re.compile(r"^pub use [^;]*;", re.M)
 BLOCK = re.compile(r"^(?:impl\b(?P<impl>[^{;]*)\{|pub trait (?P<trait>\w+))|^(?P<indent> *)(?P<pub>pub )?(?:const )?fn (?P<name>\w+)", re.M)
-# What declares one in C, by one of the four types, and in C++.
-C_CALL = re.compile(r"\brange_set_(?:i64_)?(\w+)\(")
-CPP_CALL = re.compile(r"^    (?! |friend|return|explicit)[\w:<>,& *]*[ &*](?!operator\b)([a-z]\w*)\(", re.M)
-CPP_PRIVATE = re.compile(r"^ *private:.*?^\};|^namespace detail \{.*?^\} // namespace detail", re.M | re.S)
+# What declares one in C, by one of the four types; those of maps by their whole name.
+C_CALL = re.compile(r"\b(?:range_set_(?:i64_)?|(?=range_map_i64_))(\w+)\(")
 # The same of Python's classes and functions.
 PYTHON_CALL = re.compile(r"^(?:    )?def ([a-z]\w*)", re.M)
 # The newest version in CHANGELOG, where each package has it, and how.
@@ -301,10 +299,11 @@ def calls_beyond_the_crates(paths):
     layer = [it for it in paths if re.match(r"rust/src/(?!generated|support)", it) and it.endswith(".rs")]
     rust = {name for it in layer for name in re.findall(r"^ *pub fn (\w+)", read(it), re.M)}
     ours = {it for it in C_CALL.findall(read("c/include/range_set.h")) if not re.match(r"[iu](32|64)_", it)}
+    operators = {"!", *calls_by_language.OPERATORS.values()}
     python = [f"python/src/range_sets/{it}.py" for it in ("_buffers", "_ranges", "_sets", "_maps", "dask")]
-    cpp = "".join(read(it) for it in paths if it.startswith("c/include/") and it.endswith(".hpp"))
     yield "rust/README.md", rust
-    yield "c/README.md", ours | set(CPP_CALL.findall(CPP_PRIVATE.sub("", cpp)))
+    yield "c/README.md", ours
+    yield "c/CPP.md", {name for _, name in calls_by_language.of_cpp() if name.removesuffix("_with") not in operators}
     yield "python/README.md", {name for it in python for name in PYTHON_CALL.findall(read(it))}
 
 
