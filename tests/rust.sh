@@ -148,7 +148,7 @@ packages() {
     for name in LICENSE-APACHE LICENSE-MIT; do
         tar xOf "$CARGO_TARGET_DIR"/package/range-sets-*.crate --wildcards "*/$name" | cmp - "$top/$name" || return
     done
-    grep -oE '\]\([^)]+\)' README.md | tr -d '])(' | grep -v '^https:' | while read -r name; do
+    grep -oE '\]\([^)]+\)' README.md | tr -d '])(' | grep -v '^https:\|^#' | while read -r name; do
         grep -q "^$name\(/\|\$\)" "$work/files" || { echo "the package has no $name, to which README.md links" && return 1; }
     done
 }
@@ -200,13 +200,18 @@ fn main() {
     }
 }
 
-# Runs the block of a page that begins with a use of the crate, word for word, as a program of its own.
+# Runs each block of a page that begins with a use of the crate, word for word, as a program of its own, or as the lines of one.
 runs_page() {
-    local page=$work/page
-    makes_a_program "$page"
-    awk '/^```/ { on = 0; next_is_first = $0 == "```rust"; next } next_is_first { on = $0 ~ /^use range_sets/; next_is_first = 0 } on' "$1" \
-        >"$page/src/main.rs"
-    [ -s "$page/src/main.rs" ] && (cd "$page" && cargo run --quiet "${offline[@]}")
+    local page=$work/page block
+    rm -rf "$page" && makes_a_program "$page" && mkdir "$page/src/bin" && awk -v to="$page/src/bin/" \
+        '/^```/ { on = 0; next_is_first = $0 == "```rust"; next } next_is_first { on = /^use range_sets/; n += on; next_is_first = 0 }
+        on { print >(to "block" n ".rs") }' "$1" && [ -s "$page/src/bin/block1.rs" ] || return
+    for block in "$page/src/bin"/*; do
+        grep -q '^fn main' "$block" || { printf 'fn main() {\n%s\n}\n' "$(cat "$block")" >"$work/lines" && mv "$work/lines" "$block"; }
+    done
+    for block in "$page/src/bin"/*; do
+        (cd "$page" && cargo run --quiet "${offline[@]}" --bin "$(basename "$block" .rs)") || return
+    done
 }
 
 if [ "${1-}" = --sanitizer ]; then
