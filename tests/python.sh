@@ -234,5 +234,6 @@ for page in ../README.md README.md; do
     step "the lines in Python of $page" runs_page "$page" python
 done
 step_with numpy python3-numpy "the lines of the page with numpy" runs_page README.md python numpy
+step_with pandas python3-pandas "the lines of the page with pandas" runs_page README.md python pandas
 step_with dask.bag python3-dask "the lines of the page with dask" runs_page README.md python dask
 ended
