@@ -148,7 +148,7 @@ runs_page() {
     for block in "$work/blocks"/*; do
         if ! grep -q '^int main' "$block"; then
             {
-                printf '#include <%s>\n' $([ "$language" = c ] && echo range_set.h || echo range_map.hpp) assert.h
+                printf '#include <range_%s>\n#include <assert.h>\n' "$([ "$language" = c ] && echo set.h || echo map.hpp)"
                 grep '^#include' "$block"
                 echo 'int main(void) {' && grep -v '^#include' "$block" && echo '}'
             } >"$work/body" && mv "$work/body" "$block"

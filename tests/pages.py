@@ -2,7 +2,7 @@
 """Whether the pages are true of the tree: links lead somewhere, files and names that a page gives are there, a word of the
 model is defined, what CALLING and PROVED quote of a source stands there, what there is to read for the claim has as many
 lines as PROVED says, each folder has the lines that ARCHITECTURE gives, and each rule there one file, each public call stands
-in CALLING, in PROMISES or on the page of its language, the table of calls is what tools/calls.py writes, each package has the
+in CALLING or PROMISES, or on the page of its language, the table of calls is what tools/calls.py writes, each package has the
 version of CHANGELOG, and no commit names a path of a machine in its message. Each check of a text has to find a fault on a
 made-up page. And which mutants a change has tried again, by the rows of record_rows.py, and whether the text of each mutant of
 Rust and C by hand stands once.
@@ -398,7 +398,7 @@ def main():
     for page, calls in calls_beyond_the_crates(paths):
         prefixed = prefixed_words(ROOT / page)
         found = [f"there is no call {it}" for it in sorted(prefixed - calls)]
-        found += missing_calls(calls, prefixed | words_in_code([*shared, ROOT / page]))
+        found += missing_calls(calls, prefixed | words_in_code([ROOT / page]))
         checks.append((ROOT / page, "public calls", found))
     written = [] if calls_by_language.is_written() else ["tools/calls.py writes another table"]
     checks.append((docs / "DIFFERENCES.md", "calls", written))
