@@ -10,7 +10,7 @@ import struct
 import unittest
 from array import array
 from datetime import date, timedelta, timezone
-from ipaddress import IPv4Address, IPv6Address
+from ipaddress import IPv4Address
 from math import fsum, inf, nextafter
 
 from range_sets import MutableRangeSet, RangeMap, RangeSet, _core, _kinds
@@ -451,11 +451,9 @@ class OfKinds(unittest.TestCase):
 
     def test_what_is_no_element(self):
         for value, text in (
-            ("a", "a text is no element of a set"),
-            (b"a", "a text is no element of a set"),
-            (IPv6Address(1), "it has 128 bits"),
+            ({1}, "'set' object cannot be interpreted as an integer"),
             (1j, "'complex' object cannot be interpreted as an integer"),
-            (datetime.time(9), "'time' object cannot be interpreted"),
+            (object(), "'object' object cannot be interpreted"),
         ):
             for call in (
                 lambda: RangeSet([(value, None)]),

@@ -179,7 +179,7 @@ class Rows(unittest.TestCase):
         for wrong in ((0, 2**63), (-(2**63) - 1, 0), (2**64, None)):
             self.assertRaises(OverflowError, RangeMap, [((0, 1), "a"), (wrong, "b")])
         self.assertRaises(OverflowError, RangeMap, [((0, 1), "a"), ((-1, 5), "b")], unsigned=True)
-        for wrong in ([((0, 1), "a"), 5], [((0, 1, 2), "a")], [((0, 1), "a", "b")], [((0, 1.5), "a")], 5, [(("0", "1"), "a")]):
+        for wrong in ([((0, 1), "a"), 5], [((0, 1, 2), "a")], [((0, 1), "a", "b")], [((0, 1.5), "a")], 5, [(("0", 1), "a")]):
             self.assertRaises((TypeError, ValueError), RangeMap, wrong)
 
     def test_later_ranges_win(self):

@@ -142,7 +142,7 @@ class Psycopg(unittest.TestCase):
             with self.assertRaisesRegex(ValueError, "expected a range with its start and without its end"):
                 RangeSet([given])
         self.assertRaisesRegex(ValueError, "a range that isn't empty", MutableRangeSet().add, EMPTY)
-        self.assertRaises(TypeError, RangeSet, of_psycopg("a", "b"))
+        self.assertRaises(TypeError, RangeSet, of_psycopg("a", 5))
 
 
 if __name__ == "__main__":

@@ -2,7 +2,9 @@
 
 from array import array
 from datetime import date, datetime, timedelta
-from ipaddress import IPv4Address, IPv4Network
+from decimal import Decimal
+from fractions import Fraction
+from ipaddress import IPv4Address, IPv4Network, IPv6Network
 from typing import Any, assert_type
 
 import range_sets
@@ -67,6 +69,9 @@ leave.remove(None, date(2026, 5, 2))
 assert_type([(first, who) for (first, end), who in leave.items()], list[tuple[date, str]])
 assert_type(MutableRangeSet.intersection_all([made, received]), MutableRangeSet)
 assert_type(received & made, MutableRangeSet)
+assert_type(RangeSet([("a", "b"), ("k", None)]) | RangeSet([IPv6Network("::/64")]), RangeSet)
+assert_type("a" in RangeSet([(Decimal(1), Fraction(5, 2))]), bool)
+assert_type(RangeMap.depth([("a", "b")]), RangeMap[Any, int])
 
 
 def count(given: AnyRangeSet) -> int:
@@ -82,10 +87,9 @@ assert_type(covered_by_key([]), Any)
 RangeSet([], unsinged=True)  # type: ignore[arg-type]
 RangeSet(5)  # type: ignore[arg-type]
 RangeSet([0, 5])  # type: ignore[list-item]
-RangeSet("0..5")  # type: ignore[arg-type]
-RangeSet([("a", "b")])  # type: ignore[list-item]
-made.insert("a")  # type: ignore[call-overload]
-"a" in made  # type: ignore[operator]
+RangeSet([(object(), None)])  # type: ignore[list-item]
+made.insert(object())  # type: ignore[call-overload]
+object() in made  # type: ignore[operator]
 made.add(0, 5)  # type: ignore[attr-defined]
 made | [(0, 5)]  # type: ignore[operator]
 range_sets.union([0], [5])  # type: ignore[call-overload]

@@ -233,8 +233,8 @@ class Sets(unittest.TestCase):
     def test_no_element_is_a_member_of_an_empty_set_without_a_kind(self):
         for values in ([1, 2], [0.5, 1.5], [date(2026, 5, 1)] * 2, numpy.array(["2026-05-01", "2026-05-04"], dtype="M8[ns]")):
             self.assertEqual(RangeSet().contains(values).tolist(), [False] * len(values))
-        with self.assertRaisesRegex(TypeError, "a text is no element"):
-            RangeSet().contains(["x"])
+        with self.assertRaisesRegex(TypeError, "'complex' object"):
+            RangeSet().contains([1j])
 
     def test_arrays_without_a_float_tell_no_kind(self):
         some = RangeSet([(0, 5)])

@@ -6,9 +6,10 @@ from typing import Any
 
 from . import _core
 from ._floats import FLOAT
-from ._kind import NAT, NO_KIND, UNCOUNTED, Kind, Now
+from ._kind import NAT, NO_KIND, Kind, Now
 from ._kinds import kind_of_first
 from ._numbers import typecode_of
+from ._ordered import Ordered
 from ._times import AWARE, DELTA
 
 
@@ -17,6 +18,9 @@ def codes_of_each(kind: Kind, values: Any) -> tuple[Any, Any]:
     numbers out of range. The numbers of these mean nothing."""
     import numpy
 
+    if kind.is_ordered:
+        # Of a list of tuples and the like numpy would make a table.
+        values = _objects(values)
     in_utc = times_in_utc(values, kind)
     found = numpy.asarray(values) if in_utc is None else in_utc
     gone = numpy.zeros(found.shape, dtype=bool)
@@ -36,10 +40,18 @@ def codes_of_each(kind: Kind, values: Any) -> tuple[Any, Any]:
     # As which numpy has times of units that Python has no type for.
     if found.dtype.kind in "mM" and any(isinstance(it, int) for it in elements):
         raise kind.array_type_error(found.dtype)
-    codes = [None if _is_gone(it) else kind.code(it) if kind.is_whole else kind.number(it) for it in elements]
+    code = kind.code if kind.is_whole or kind.is_ordered else kind.number
+    codes = [None if _is_gone(it) else code(it) for it in elements]
     none = [it is None or not kind.least <= it <= kind.most for it in codes]
     numbers = [0 if is_none else it for it, is_none in zip(codes, none)]
     return numpy.array(numbers, dtype=typecode_of(kind.unsigned)).reshape(found.shape), numpy.array(none, dtype=bool).reshape(found.shape)
+
+
+def _objects(values: Any) -> Any:
+    """An array of numpy, or one of the objects in a list."""
+    import numpy
+
+    return numpy.asarray(values, dtype=object) if hasattr(values, "dtype") else numpy.fromiter(values, dtype=object)
 
 
 def _is_gone(element: Any) -> bool:
@@ -90,6 +102,13 @@ def _ranks(now: Now, *columns: Any) -> tuple[Any, Any]:
 
 def overlaps_each(now: Now, starts: Any, ends: Any) -> Any:
     """For each start and end whether an element from the one up to below the other is a member."""
+    import numpy
+
+    boundaries, kind = now
+    if isinstance(kind, Ordered):
+        pairs = numpy.broadcast(*(_objects(it) for it in (starts, ends)))
+        each = [_core.intersects(boundaries, _core.range_list(*kind.ends_around(*it), False)) for it in pairs]
+        return numpy.array(each, dtype=bool).reshape(pairs.shape)
     found, gone = _ranks(now, starts, ends)
     return (found[..., 0] < found[..., 1]) & ~gone.any(axis=-1)
 
@@ -97,8 +116,8 @@ def overlaps_each(now: Now, starts: Any, ends: Any) -> Any:
 def rank_each(now: Now, *columns: Any) -> Any:
     """For each element how many members are below. Two columns make a table."""
     kind, (found, gone) = now[1], _ranks(now, *columns)
-    if kind is FLOAT:
-        raise TypeError(UNCOUNTED)
+    if kind.uncounted:
+        raise TypeError(kind.uncounted)
     if gone.any():
         raise OverflowError(f"expected {kind.element}") if kind.is_whole else ValueError(NAT)
     return found.view("i8") if (found < 2**63).all() else found
@@ -173,6 +192,8 @@ def array_of(now: Now) -> Any:
         floats = numpy.empty(len(boundaries))
         _core.mirror(boundaries, floats.view("i8"))
         return floats
+    if kind.is_ordered:
+        return numpy.fromiter(kind.values(boundaries), dtype=object, count=len(boundaries))
     numbers = numpy.asarray(boundaries)
     if kind is DELTA and len(numbers) and numbers[0] == kind.least:
         raise ValueError("numpy has no timedelta64 for the least timedelta: its number is NaT's")

@@ -376,6 +376,19 @@ OPERATION(intersection, RANGE_SET_INTERSECTION)
 OPERATION(difference, RANGE_SET_DIFFERENCE)
 OPERATION(symmetric_difference, RANGE_SET_SYMMETRIC_DIFFERENCE)
 
+/* Makes the set another one, of a list and its kind, if it is what it was seen to be. */
+static PyObject *chunks_replace(Chunks *self, PyObject *const *args, Py_ssize_t n)
+{
+    List list;
+    if (!has_arguments(n, 3) || !borrow_own(args[0], &list)) return NULL;
+    PyObject *now = list_and_kind(Py_NewRef(args[0]), args[1]);
+    if (now == NULL) return NULL;
+    bool is_seen = self->now == args[2];
+    if (is_seen) become(self, now, (Chunked){.i64 = {NULL}}, list.is_signed, PyTuple_GET_ITEM(now, 1));
+    else Py_DECREF(now);
+    return PyBool_FromLong(is_seen);
+}
+
 /* ---- Questions ---- */
 
 /* How many ranges the set has. */
@@ -409,14 +422,14 @@ static PyObject *chunks_new(PyTypeObject *type, PyObject *args, PyObject *names)
     PyObject *boundaries, *kind;
     List list;
     if (!PyArg_ParseTuple(args, "OO", &boundaries, &kind) || !borrow_own(boundaries, &list)) return NULL;
-    PyObject *now = PyTuple_Pack(2, boundaries, kind);
+    PyObject *now = list_and_kind(Py_NewRef(boundaries), kind);
     Chunks *self = now == NULL ? NULL : (Chunks *)type->tp_alloc(type, 0);
     if (self == NULL) {
         Py_XDECREF(now);
         return NULL;
     }
     self->now = now;
-    self->kind = Py_NewRef(kind);
+    self->kind = Py_NewRef(PyTuple_GET_ITEM(now, 1));
     self->is_signed = list.is_signed;
     self->is_plain = is_plain(kind);
     return (PyObject *)self;
@@ -435,7 +448,7 @@ static void chunks_dealloc(Chunks *self)
 
 static PyMethodDef methods[] = {
     METHOD(insert), METHOD(remove), METHOD(union), METHOD(intersection), METHOD(difference), METHOD(symmetric_difference),
-    METHOD(near), METHOD(meets),
+    METHOD(replace), METHOD(near), METHOD(meets),
     {"clear", (PyCFunction)chunks_clear, METH_NOARGS, NULL},
     {"__sizeof__", (PyCFunction)chunks_sizeof, METH_NOARGS, NULL},
     {NULL, NULL, 0, NULL},

@@ -26,6 +26,7 @@ class Float(Kind):
     def __init__(self) -> None:
         self.infinity = struct.unpack("q", struct.pack("d", inf))[0]
         super().__init__("float", "a float", -self.infinity, self.infinity, "floats")
+        self.uncounted = UNCOUNTED
 
     def code(self, value: Any) -> int:
         if not isinstance(value, float):

@@ -13,8 +13,9 @@ from ._arrays import array_of
 from ._core import Boundaries
 from ._floats import FLOAT
 from ._kind import NO_KIND, SIGNED, UNSIGNED, Kind, Now
-from ._kinds import agreed, kind_of_pickle
+from ._kinds import agreed, kind_of_first, kind_of_pickle
 from ._numbers import in_this_order
+from ._ordered import ORDERED
 
 # `repr` writes a set or a map of more than `MANY` ranges by `SHOWN` at either end.
 MANY, SHOWN = 1000, 3
@@ -56,7 +57,7 @@ class Attributes:
         parts = [items] if items else []
         if kind is UNSIGNED:
             parts.append("unsigned=True")
-        elif not items and not kind.is_whole:
+        elif (not items and not kind.is_whole) or (items and kind.is_ordered and kind_of_first((kind.value(0),)) is not ORDERED):
             parts.append(f"kind={kind.name!r}")
         return f"{type(self).__name__}({', '.join(parts)})"
 
@@ -121,7 +122,7 @@ class Kept(Attributes, _core.Set):
         is_far = _are_far_apart(boundaries)
         packed: Any = boundaries if is_far else _core.pack(boundaries)
         memory = PickleBuffer(packed) if index(protocol) >= 5 else bytes(packed)
-        names = () if kind is _unnamed_kind(boundaries) else (kind.name,)
+        names = () if kind is _unnamed_kind(boundaries) else (kind.pickled,)
         if is_far:
             return _restored, (type(self), memory, kind.unsigned, sys.byteorder, *names), self.__getstate__()
         return _unpacked, (type(self), memory, *names), self.__getstate__()

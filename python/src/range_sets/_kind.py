@@ -7,7 +7,7 @@ numbers is a set of elements, and the library for C needs to know of numbers alo
 from __future__ import annotations
 
 from datetime import date, datetime, timedelta
-from ipaddress import IPv4Address
+from ipaddress import IPv4Address, IPv6Address
 from operator import index
 from typing import Any, Iterable, Iterator, Protocol, SupportsIndex, Union
 
@@ -24,6 +24,13 @@ class Scalar(Protocol):
         ...
 
 
+class Sortable(Protocol):
+    """What they know of one value of the kind `ordered`."""
+
+    def __lt__(self, other: Any, /) -> Any:
+        ...
+
+
 class Array(Protocol):
     """What they know of arrays and columns."""
 
@@ -36,7 +43,7 @@ class Array(Protocol):
 
 
 # One element of a set.
-Element = Union[SupportsIndex, float, date, timedelta, IPv4Address, Scalar]
+Element = Union[SupportsIndex, float, date, timedelta, IPv4Address, IPv6Address, Scalar, Sortable]
 # What is given as `kind`.
 KindLike = Union[str, type, None]
 
@@ -58,6 +65,10 @@ class Kind:
     unsigned = False
     # Whether the extension reads its elements itself.
     is_plain = False
+    # Whether its numbers are the ranks of a set's own boundaries, as of values that sort.
+    is_ordered = False
+    # What an error says if its elements aren't counted one by one.
+    uncounted = ""
     # What an error adds to say between which elements one has to lie.
     span = ""
     # numpy's type of arrays that have these numbers as they lie.
@@ -68,6 +79,8 @@ class Kind:
         # The boundaries of the empty set.
         self.nothing = _core.range_list(0, 0, self.unsigned)
         self.is_whole = isinstance(self, Whole)
+        # Whether a set that changes is asked in its chunks.
+        self.is_in_chunks = not self.is_ordered
 
     def code(self, value: Any) -> int:
         """The number of an element, which may lie outside of the kind's; a TypeError if it is no element of the kind."""
@@ -130,8 +143,22 @@ class Kind:
         """The list without an end past the greatest element."""
         return boundaries[:-1] if self.most != most(self.unsigned) and boundaries and boundaries[-1] > self.most else boundaries
 
-    def all(self) -> Boundaries:
-        return _core.range_list(self.least, None, self.unsigned)
+    def of(self, values: Iterable[Any]) -> Kind:
+        """The kind that has numbers for these."""
+        return self
+
+    def everything(self) -> Now:
+        """The set of all elements."""
+        return _core.range_list(self.least, None, self.unsigned), self
+
+    def hashed(self, boundaries: Boundaries) -> Any:
+        """What is hashed of a set."""
+        return bytes(boundaries)
+
+    @property
+    def pickled(self) -> Any:
+        """What pickles have of the kind."""
+        return None if self is NO_KIND else self.name
 
     def ends(self, start: int, end: int | None) -> tuple[Any, Any]:
         """The elements of a start and an end; no end is None."""
@@ -202,6 +229,7 @@ UNSIGNED: Whole = Whole("unsigned", True)
 # That of an empty set whose kind isn't known yet. Until it meets a set or an element of another kind it is one of signed numbers.
 NO_KIND: Whole = Whole("int", False)
 SIGNED.is_plain = UNSIGNED.is_plain = True
+NO_KIND.is_in_chunks = False
 
 # The boundaries of a set and their kind.
 Now = tuple[Boundaries, Kind]

@@ -1,10 +1,10 @@
-"""What the elements of sets are: whole numbers, floats, times or addresses; which kind an element has, and which one two sets have."""
+"""What the elements of sets are: numbers, times, addresses or values that sort; which kind an element has, and which one two sets have."""
 
 from __future__ import annotations
 
 import reprlib
 from datetime import date, datetime, timedelta
-from ipaddress import IPv4Address, IPv6Address
+from ipaddress import IPv4Address, IPv4Network, IPv6Address, IPv6Network
 from operator import index
 from typing import Any, Iterable
 
@@ -12,6 +12,7 @@ from . import _core
 from ._core import Boundaries
 from ._floats import FLOAT, is_numpy_float
 from ._kind import NO_KIND, SIGNED, UNSIGNED, Kind, Now, Whole
+from ._ordered import LONG_ADDRESS, ORDERED, Ordered
 from ._times import AWARE, DATE, DELTA, NAIVE, Numpys, of_dtype
 
 
@@ -37,8 +38,11 @@ class Addresses(Kind):
 ADDRESS = Addresses()
 # What an error says of a float that is no whole number.
 OF_FLOATS = "kind='float' makes a set of floats"
-_NAMED: dict[str | type, Kind] = {it.name: it for it in (SIGNED, UNSIGNED, FLOAT, DATE, DELTA, ADDRESS, NAIVE, AWARE)}
-_NAMED |= {int: SIGNED, float: FLOAT, date: DATE, datetime: NAIVE, timedelta: DELTA, IPv4Address: ADDRESS}
+_KINDS = (SIGNED, UNSIGNED, FLOAT, DATE, DELTA, ADDRESS, LONG_ADDRESS, NAIVE, AWARE, ORDERED)
+_NAMED: dict[str | type, Kind] = {it.name: it for it in _KINDS}
+_NAMED |= {int: SIGNED, float: FLOAT, date: DATE, datetime: NAIVE, timedelta: DELTA, IPv4Address: ADDRESS, IPv6Address: LONG_ADDRESS}
+# What is a range of addresses.
+NETWORKS = (IPv4Network, IPv6Network)
 
 
 def given_kind(kind: Any, unsigned: bool | None = None) -> Kind | None:
@@ -54,8 +58,11 @@ def given_kind(kind: Any, unsigned: bool | None = None) -> Kind | None:
 def kind_of_pickle(name: Any) -> Kind:
     """The kind that a pickle names, or none yet for None."""
     try:
-        return given_kind(name) or NO_KIND
-    except TypeError as error:
+        found = given_kind(name[0] if isinstance(name, tuple) else name) or NO_KIND
+        if isinstance(name, tuple) != isinstance(found, Ordered):
+            raise TypeError(f"the bytes have no boundaries of the kind {found.name!r}, or too many")
+        return found.of_pickle(name[1]) if isinstance(found, Ordered) else found
+    except (TypeError, IndexError) as error:
         raise ValueError(str(error)) from None
 
 
@@ -90,7 +97,7 @@ def kind_of(value: Any) -> Kind | None:
             return AWARE
         # pandas' own may have nanoseconds.
         return of_dtype(value.to_datetime64().dtype) if hasattr(value, "to_datetime64") else NAIVE
-    for type_of, kind in ((float, FLOAT), (date, DATE), (timedelta, DELTA), (IPv4Address, ADDRESS)):
+    for type_of, kind in ((float, FLOAT), (date, DATE), (timedelta, DELTA), (IPv4Address, ADDRESS), (IPv6Address, LONG_ADDRESS)):
         if isinstance(value, type_of):
             return kind
     if type(value).__name__ == "datetime64" and hasattr(value, "dtype"):
@@ -99,9 +106,22 @@ def kind_of(value: Any) -> Kind | None:
         return FLOAT
     try:
         index(value)
+        return SIGNED
     except TypeError:
-        return None
-    return SIGNED
+        return ORDERED if is_one_value(value) and sorts(value) else None
+
+
+def is_one_value(value: Any) -> bool:
+    """Whether it is no list, table, array or range."""
+    return isinstance(value, (str, bytes)) or not any(hasattr(value, it) for it in ("__iter__", "dtype", "closed", "lower_inc"))
+
+
+def sorts(value: Any) -> bool:
+    """Whether `<` takes a value."""
+    try:
+        return not value < value
+    except TypeError:
+        return False
 
 
 def kind_of_first(values: Iterable[Any]) -> Kind | None:
@@ -109,9 +129,12 @@ def kind_of_first(values: Iterable[Any]) -> Kind | None:
     for value in values:
         if value is not None:
             found = kind_of(value)
-            if found is None:
-                raise _element_error(value)
-            return found
+            if found is not None:
+                return found
+            # It is an element, and no pair.
+            if isinstance(value, tuple):
+                return ORDERED
+            raise TypeError(f"{type(value).__name__!r} object cannot be interpreted as an integer")
     return None
 
 
@@ -124,12 +147,19 @@ def agreed(left: Now, right: Now) -> tuple[Boundaries, Boundaries, Kind]:
         return other.nothing, b, other
     if other is NO_KIND:
         return a, kind.nothing, kind
+    if isinstance(kind, Ordered) and isinstance(other, Ordered) and are_of_one(kind, other):
+        return kind.agreed(a, other, b)
     raise TypeError(mixed(kind, other))
+
+
+def are_of_one(kind: Kind, other: Kind) -> bool:
+    """Whether two kinds are one, as of values that sort each set has its own."""
+    return kind is other or (kind.is_ordered and kind.name == other.name)
 
 
 def are_alike(kind: Kind, other: Kind, has_any: bool) -> bool:
     """Whether what is of two kinds may be equal: what has nothing, and no kind yet, is as nothing of each."""
-    return kind is other or (not has_any and NO_KIND in (kind, other))
+    return are_of_one(kind, other) or (not has_any and NO_KIND in (kind, other))
 
 
 def mixed(kind: Kind, other: Kind) -> str:
@@ -146,13 +176,3 @@ def asked_error(value: Any, kind: Kind, error: TypeError) -> TypeError:
     if isinstance(value, (tuple, list, range)):
         return TypeError(f"expected an element, not {reprlib.repr(value)}: s.covers(start, end) asks for all of a range")
     return TypeError(f"{error}: {OF_FLOATS}") if kind.is_whole and isinstance(value, float) else error
-
-
-def _element_error(value: Any) -> TypeError:
-    if isinstance(value, (str, bytes)):
-        return TypeError(
-            "a text is no element of a set: parse numbers and dates first, or give the place of each in a sorted list of texts"
-        )
-    if isinstance(value, IPv6Address):
-        return TypeError("an IPv6 address is no element of a set, since it has 128 bits: sets of the Rust crate have u128")
-    return TypeError(f"{type(value).__name__!r} object cannot be interpreted as an integer")

@@ -80,7 +80,9 @@ PyObject *list_or_error(PyObject *bytes, size_t len, bool is_signed, range_set_s
 
 PyObject *list_and_kind(PyObject *list, PyObject *kind)
 {
-    PyObject *both = list == NULL ? NULL : PyTuple_Pack(2, list, kind);
+    PyObject *both = NULL;
+    /* A kind of values that sort is called, and has a list of its own for each set. */
+    if (list != NULL) both = Py_TYPE(kind)->tp_call != NULL ? PyObject_CallOneArg(kind, list) : PyTuple_Pack(2, list, kind);
     Py_XDECREF(list);
     return both;
 }

@@ -2,19 +2,21 @@
 
 from __future__ import annotations
 
-from ipaddress import IPv4Network
-from typing import Any, Generic, Iterator, Self, TypeVar, Union, overload
+from array import array
+from ipaddress import IPv4Network, IPv6Network
+from typing import Any, Generic, Iterable, Iterator, Self, TypeVar, Union, overload
 
 from . import _core
 from ._arrays import asked_of
 from ._core import Boundaries, Steps
 from ._kept import Attributes
 from ._kind import NO_KIND, Array, Element, Kind, Now
-from ._kinds import agreed, kind_of, kind_of_first, mixed
-from ._numbers import least, most
+from ._kinds import NETWORKS, agreed, are_of_one, kind_of, kind_of_first, mixed
+from ._numbers import least, most, packed
+from ._ordered import Ordered, list_of, merged
 from ._ranges import AnyRangeSet
 from ._sets import RangeSet
-from ._sources import OneRange, range_of
+from ._sources import OneRange, codes_of_range, range_of
 
 K = TypeVar("K")
 V = TypeVar("V")
@@ -22,7 +24,7 @@ D = TypeVar("D")
 # A range and its value; the end None says that it has no end.
 Item = tuple[tuple[K, Union[K, None]], V]
 # What stands in the brackets of a change, or of a part.
-Keys = Union[slice, range, IPv4Network, AnyRangeSet]
+Keys = Union[slice, range, IPv4Network, IPv6Network, AnyRangeSet]
 
 
 class _Nothing:
@@ -87,7 +89,7 @@ class MapQuestions(Attributes, Generic[K, V]):
         ...
 
     def __getitem__(self, key: Any) -> Any:
-        if isinstance(key, (slice, range, IPv4Network, AnyRangeSet)):
+        if isinstance(key, (slice, range, AnyRangeSet, *NETWORKS)):
             return self._part(key)
         found = self._found(key, NOTHING)
         if found is NOTHING:
@@ -97,6 +99,9 @@ class MapQuestions(Attributes, Generic[K, V]):
     def _part(self, keys: Keys) -> Self:
         ranges, kind = self._ranges(keys, self._kind)
         self._check_kind(kind)
+        if isinstance(kind, Ordered):
+            steps, both = numbered_with(self._steps, ranges, kind)
+            return self._with_steps(steps.part(list_of(both)))
         return self._with_steps(self._steps.part(ranges))
 
     @overload
@@ -164,7 +169,7 @@ class MapQuestions(Attributes, Generic[K, V]):
             return agreed((kind.nothing, kind), keys._now)[1:]
         if isinstance(keys, slice) and keys.step is None:
             return range_of(keys.start, keys.stop, kind)
-        if isinstance(keys, (range, IPv4Network)):
+        if isinstance(keys, (range, *NETWORKS)):
             return range_of(keys, ..., kind)
         found = kind_of(keys)
         if found is not None:
@@ -245,8 +250,11 @@ class MapQuestions(Attributes, Generic[K, V]):
         >>> m.overlapping(5, 25), m.overlapping((30, 40))
         ([((0, 10), 'low'), ((20, 30), 'high')], [])
         """
-        wanted, kind = range_of(start, end, self._kind)
+        first, last, kind = codes_of_range(start, end, self._kind)
         self._check_kind(kind)
+        if kind.is_ordered:
+            return [*self._steps.items(first, last)]
+        wanted = kind.range_list(first, last)
         return [*self._steps.items(*_ends(wanted))] if wanted else []
 
     def gaps(self, start: Element | None = None, end: Element | None = None) -> RangeSet:
@@ -257,6 +265,8 @@ class MapQuestions(Attributes, Generic[K, V]):
         >>> RangeMap([((0, 10), "low"), ((20, 30), "high")]).gaps(5, 25)
         RangeSet([(10, 20)])
         """
+        if self._kind.is_ordered:
+            return self.domain().gaps(start, end)
         wanted, kind = range_of(start, end, self._kind)
         self._check_kind(kind)
         if wanted and self._kind is kind:
@@ -294,10 +304,23 @@ class MapQuestions(Attributes, Generic[K, V]):
         return found
 
     def _check_kind(self, kind: Kind) -> None:
-        if kind is not self._kind and self._kind is not NO_KIND:
+        if not are_of_one(kind, self._kind) and self._kind is not NO_KIND:
             raise TypeError(mixed(self._kind, kind))
 
 
 def _ends(one: Boundaries) -> tuple[int, int | None]:
     """The start and the end of one range."""
     return one[0], one[1] if len(one) > 1 else None
+
+
+def numbered_with(steps: Steps, ends: Iterable[int], kind: Ordered) -> tuple[Steps, list[int]]:
+    """A map whose keys sort, made anew, and ends of ranges, by one kind of both. The least number as an end says that there is none."""
+    codes, values = steps.ends_and_values()
+    mine = array("q", codes)
+    none = least(unsigned=False)
+    known = sorted({*mine} - {none})
+    keys, left, right = merged([*map(steps.kind.keys.__getitem__, known)] if isinstance(steps.kind, Ordered) else [], kind.keys)
+    numbers = dict(zip(known, left))
+    made = Steps(kind.over(keys), False)
+    made.change(packed((numbers.get(it, none) for it in mine), False), values)
+    return made, [none if it == none else right[it] for it in ends]

@@ -5,8 +5,9 @@ from __future__ import annotations
 import copy
 import reprlib
 import sys
+from array import array
 from collections import Counter
-from ipaddress import IPv4Network
+from ipaddress import IPv4Network, IPv6Network
 from itertools import islice
 from typing import Any, Callable, Iterable, Mapping, Self, TypeVar, Union
 
@@ -14,9 +15,10 @@ from . import _core
 from ._core import Steps
 from ._kept import MANY, SHOWN
 from ._kind import NO_KIND, SIGNED, Kind, KindLike
-from ._kinds import are_alike, given_kind, kind_of_pickle, mixed
-from ._map_questions import NOTHING, Keys, MapQuestions
+from ._kinds import are_alike, are_of_one, given_kind, kind_of_pickle
+from ._map_questions import NOTHING, Keys, MapQuestions, numbered_with
 from ._numbers import in_this_order, least, packed
+from ._ordered import ORDERED, Ordered
 from ._ranges import AnyRangeSet
 from ._sources import Source, items_of, of_one_kind, sets_of
 
@@ -26,7 +28,7 @@ D = TypeVar("D")
 M = TypeVar("M", bound="RangeMap[Any, Any]")
 # What a map is made of.
 Pair = tuple[Union[K, None], Union[K, None]]
-Items = Union["RangeMap[K, V]", Mapping[Any, V], Iterable[tuple[Union[Pair[K], list[K], range, IPv4Network, AnyRangeSet], V]]]
+Items = Union["RangeMap[K, V]", Mapping[Any, V], Iterable[tuple[Union[Pair[K], list[K], range, IPv4Network, IPv6Network, AnyRangeSet], V]]]
 
 
 class RangeMap(MapQuestions[K, V]):
@@ -53,7 +55,8 @@ class RangeMap(MapQuestions[K, V]):
     value holds. Keys are of one kind, as those of a `RangeSet`, and the length is the number of ranges. In brackets a key has a value,
     and a slice, a `range`, a network or a set is a part: it is changed, or read as another map.
 
-    Calls that touch a few ranges take some microseconds also of a million, and `items`, `domain`, `find` and `==` go over all. To
+    Calls that touch a few ranges take some microseconds also of a million, and `items`, `domain`, `find` and `==` go over all. Of keys
+    that sort, as texts, each change and each part goes over all. To
     checkers of types it is a `RangeMap[K, V]`. They refuse slices of dates: `put` and `remove` do the same.
 
     A loop over a map may give the ranges that it reads other values. One that leaves it more or fewer ranges raises a RuntimeError, as
@@ -126,9 +129,21 @@ class RangeMap(MapQuestions[K, V]):
         done = False
         # The code of a key or a value may decide the kind meanwhile.
         while not done:
-            known = self._kind
+            steps = self._steps
+            known = steps.kind
             ranges, kind = self._ranges(keys, known)
-            done = self._steps.change(ranges, values * ((len(ranges) + 1) // 2) if values else None, known, kind)
+            each = values * ((len(ranges) + 1) // 2) if values else None
+            done = self._anew(steps, ranges, each, kind) if isinstance(kind, Ordered) else steps.change(ranges, each, known, kind)
+
+    def _anew(self, steps: Steps, ranges: Iterable[int], values: tuple[V, ...] | None, kind: Ordered) -> bool:
+        """Changes a map whose keys sort, unless it has changed since."""
+        self._check_kind(kind)
+        made, ends = numbered_with(steps, ranges, kind)
+        made.change(packed([*ends, *[least(False)] * (len(ends) % 2)], False), values, made.kind, made.kind)
+        if self._steps is not steps:
+            return False
+        self._steps = made
+        return True
 
     def update(self, items: Items[K, V]) -> None:
         """Puts ranges with their values in, one after the other; or those of another map. If one raises an error, none is put in.
@@ -145,9 +160,13 @@ class RangeMap(MapQuestions[K, V]):
         given = items_of(pairs, "pairs of a range and a value", "zip(zip(t['start'], t['end']), t['value']) has them")
         done = False
         while not done:
-            known = self._kind
+            steps = self._steps
+            known = steps.kind
             ends, values, kind = self._read(given, known)
-            done = self._steps.change(ends, values, known, kind)
+            if isinstance(kind, Ordered):
+                done = self._anew(steps, array("q", ends), values, kind)
+            else:
+                done = steps.change(ends, values, known, kind)
 
     def _read(self, given: list[tuple[Any, V]], kind: Kind) -> tuple[bytes, tuple[V, ...], Kind]:
         """The numbers of the ends of ranges, in turn, with their values, and their kind. The least number as an end says that there is
@@ -155,8 +174,9 @@ class RangeMap(MapQuestions[K, V]):
         found = _core.ends_and_values(given, kind.unsigned) if kind.is_plain or kind is NO_KIND else None
         if found is not None:
             return *found, SIGNED if kind is NO_KIND else kind
-        ends: list[int] = []
+        ends: list[Any] = []
         values: list[V] = []
+        none = least(kind.unsigned)
         for item in given:
             try:
                 keys, value = item
@@ -164,8 +184,13 @@ class RangeMap(MapQuestions[K, V]):
                 raise type(error)(f"expected a range and its value, as ((0, 5), 'a'), not {reprlib.repr(item)}") from None
             pair = isinstance(keys, (tuple, list)) and len(keys) == 2
             ranges, kind = self._ranges(slice(*keys) if pair else keys, kind)
-            ends += [*ranges, *[least(kind.unsigned)] * (len(ranges) % 2)]
+            # What sorts is numbered when all is read.
+            read = [*kind.values(ranges)] if kind.is_ordered else [*ranges]
+            ends += [*read, *[none if kind.is_ordered else least(kind.unsigned)] * (len(ranges) % 2)]
             values += [value] * ((len(ranges) + 1) // 2)
+        if kind.is_ordered:
+            kind = kind.of(it for it in ends if it is not none)
+            ends = [none if it is none else kind.code(it) for it in ends]
         return packed(ends, kind.unsigned), tuple(values), kind
 
     def clear(self) -> None:
@@ -178,7 +203,9 @@ class RangeMap(MapQuestions[K, V]):
         >>> m
         RangeMap()
         """
-        if self._kind is not NO_KIND:
+        if self._kind.is_ordered:
+            self._steps = Steps(self._kind.of(()), False)
+        elif self._kind is not NO_KIND:
             self._change(slice(None))
 
     # ---- Many sets, two maps ----
@@ -225,10 +252,15 @@ class RangeMap(MapQuestions[K, V]):
         """
         if not isinstance(other, RangeMap):
             raise TypeError(f"expected a RangeMap, not {type(other).__name__}")
-        if self._kind is not other._kind and NO_KIND not in (self._kind, other._kind):
-            raise TypeError(mixed(self._kind, other._kind))
+        if NO_KIND not in (self._kind, other._kind):
+            self._check_kind(other._kind)
         kind = other._kind if self._kind is NO_KIND else self._kind
-        left, right = (it._steps if it._kind is kind else Steps(kind, kind.unsigned) for it in (self, other))
+        left, right = (it._steps if are_of_one(it._kind, kind) else Steps(kind, kind.unsigned) for it in (self, other))
+        if isinstance(right.kind, Ordered):
+            ends, values = right.ends_and_values()
+            left, numbers = numbered_with(left, array("q", ends), right.kind)
+            right = Steps(left.kind, False)
+            right.change(packed(numbers, False), values)
         return RangeMap._with_steps(left.combine(right, how, missing, NOTHING))
 
     def __eq__(self, other: object) -> bool:
@@ -236,6 +268,10 @@ class RangeMap(MapQuestions[K, V]):
             return NotImplemented
         if not are_alike(self._kind, other._kind, bool(self) or bool(other)):
             return False
+        if self._kind.is_ordered and self:
+            # Equal ends have equal numbers then.
+            mine, theirs = (numbered_with(it._steps, (), ORDERED)[0] for it in (self, other))
+            return [*self] == [*other] and mine.equals(theirs)
         return not (self or other) or self._steps.equals(other._steps)
 
     # ---- Other forms ----
@@ -276,7 +312,7 @@ class RangeMap(MapQuestions[K, V]):
         ends, values = self._steps.ends_and_values()
         # A value may refer to the map, which is begun before the values are read.
         state = ends, values, sys.byteorder, self.__getstate__()
-        return _begun, (type(self), self.kind), state, None, None, _filled
+        return _begun, (type(self), self._kind.pickled), state, None, None, _filled
 
 
 def _begun(cls: type[M], name: KindLike) -> M:

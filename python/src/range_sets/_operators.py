@@ -9,6 +9,7 @@ from ._core import Boundaries
 from ._kept import Kept
 from ._kind import Kind, Now
 from ._kinds import agreed, are_alike, whole
+from ._ordered import Ordered
 
 if TYPE_CHECKING:
     from ._ranges import AnyRangeSet
@@ -38,8 +39,8 @@ class Operators(Kept):
 
     def _both(self, other: Operators) -> tuple[Boundaries, Boundaries, Kind]:
         """At least the ranges of both sets that have elements of the other, and the kind of both. The set of more ranges is read beside the
-        other one alone."""
-        if len(self) < len(other):
+        other one alone; of values that sort the left one is read first, whose own stay."""
+        if len(self) < len(other) and not self._kind.is_ordered:
             right, left, kind = other._beside(self._now)
             return left, right, kind
         return self._beside(other._now)
@@ -54,6 +55,8 @@ class Operators(Kept):
         return self._over(_core.intersection(left, right), kind)
 
     def _difference(self, other: AnyRangeSet) -> Self:
+        if self._kind.is_ordered:
+            return self._combined(_core.difference, other._now)
         right, left, kind = other._beside(self._now)
         return self._over(_core.difference(left, right), kind)
 
@@ -64,7 +67,8 @@ class Operators(Kept):
         boundaries, kind = self._now
         if kind.is_whole:
             return self._over(_core.negation(boundaries), whole(kind.unsigned))
-        return self._over(_core.difference(kind.all(), boundaries), kind)
+        left, right, kind = agreed(kind.everything(), (boundaries, kind))
+        return self._over(_core.difference(left, right), kind)
 
     def __eq__(self, other: object) -> bool:
         if not isinstance(other, Operators):
@@ -72,6 +76,8 @@ class Operators(Kept):
         if len(self) != len(other):
             return False
         (left, kind), (right, other_kind) = self._now, other._now
+        if isinstance(kind, Ordered) and left:
+            return kind.is_same(left, other_kind, right)
         return are_alike(kind, other_kind, bool(left)) and (not left or _core.equal(left, right))
 
     # For `>=` and `>` Python asks the other set by these.

@@ -11,10 +11,11 @@ from ._arrays import contains_each, covered_within_each, overlaps_each, range_at
 from ._core import Boundaries
 from ._floats import FLOAT
 from ._kept import Kept
-from ._kind import NO_KIND, UNCOUNTED, Array, Element, Kind, Now
-from ._kinds import asked_error, kind_of, kind_of_first
+from ._kind import NO_KIND, Array, Element, Kind, Now
+from ._kinds import NETWORKS, asked_error, kind_of, kind_of_first
 from ._operators import Operators
-from ._sources import OneRange, Source, all_from, codes_of_range, gather
+from ._ordered import LongAddresses, first_gap
+from ._sources import OneRange, Source, all_from, codes_of_range, gather, range_of
 
 
 class Questions(Operators):
@@ -31,7 +32,7 @@ class Questions(Operators):
         except TypeError as error:
             if kind is NO_KIND and kind_of(value):
                 return False
-            if isinstance(value, IPv4Network):
+            if isinstance(value, NETWORKS):
                 return self.covers(value)
             raise asked_error(value, kind, error) from None
 
@@ -84,13 +85,13 @@ class Questions(Operators):
         >>> s.covers(3, 10), s.covers((3, 11)), s.covers(25, None)
         (True, False, True)
         """
-        first, last, kind = codes_of_range(start, end, self._kind)
+        asked, known = self._seen
+        first, last, kind = codes_of_range(start, end, known)
         low, high = kind.least, kind.most
         if last is not None and last <= first:
             return True
         if first < low or first > high or (last is not None and last > high + 1):
             return False
-        asked, known = self._seen
         if known is not kind:
             # A set of no kind has nothing.
             return False
@@ -130,6 +131,7 @@ class Questions(Operators):
     def covered(self) -> Any:
         """How many numbers or addresses are members. Of times and dates it is a `timedelta`, and of floats the sum of the lengths of
         the ranges. It is None if the last range has no end, as has one up to the greatest number or time. Addresses always have one.
+        Values that sort can't be counted.
 
         Cost: goes over all ranges.
 
@@ -148,7 +150,8 @@ class Questions(Operators):
         ...
 
     def rank(self, value: Any) -> Any:
-        """How many members are below an element, or of an array below each. Floats can't be counted.
+        """How many members are below an element, or of an array below each. Floats, IPv6 addresses and
+        values that sort can't be counted.
 
         Cost: goes over the ranges below.
 
@@ -160,12 +163,13 @@ class Questions(Operators):
             return rank_each(self._now, value)[..., 0]
         asked, kind = self._seen
         upper, kind = all_from(value, kind)
-        if kind is FLOAT:
-            raise TypeError(UNCOUNTED)
+        if kind.uncounted:
+            raise TypeError(kind.uncounted)
         return _core.rank(asked, upper[0])
 
     def select(self, k: SupportsIndex) -> Any:
-        """The member with `k` others below it, or None if no more than `k` are members. Floats can't be counted.
+        """The member with `k` others below it, or None if no more than `k` are members. Floats, IPv6 addresses and
+        values that sort can't be counted.
 
         Cost: goes over the ranges up to the answer.
 
@@ -174,8 +178,8 @@ class Questions(Operators):
         (0, 22, None)
         """
         asked, kind = self._seen
-        if kind is FLOAT:
-            raise TypeError(UNCOUNTED)
+        if kind.uncounted:
+            raise TypeError(kind.uncounted)
         at = index(k)
         if at < 0:
             raise ValueError("expected a number of members from 0 on")
@@ -208,6 +212,9 @@ class Questions(Operators):
         count = kind.count(length)
         if count < 0:
             raise ValueError("expected a length from 0 on")
+        if isinstance(kind, LongAddresses):
+            left, right, both = self._beside(range_of(start, end, kind))
+            return first_gap([*both.values(_core.difference(right, left) if count else right)], count)
         first, last = kind.checked(kind.start(start)), kind.end(end)
         before = kind.most if last is None else kind.checked(last)
         found = _core.first_fit(asked, first, before, count) if count < 2**64 else None

@@ -3,16 +3,17 @@
 from __future__ import annotations
 
 from array import array
-from ipaddress import IPv4Address, IPv4Network, summarize_address_range
-from itertools import chain, zip_longest
+from ipaddress import IPv4Network, IPv6Network, summarize_address_range
+from itertools import chain, starmap, zip_longest
 from typing import TYPE_CHECKING, Any, Iterable, Iterator, Never, Self, SupportsIndex, overload
 
 from . import _core, _postgres, _text
-from ._floats import FLOAT
+from ._core import Boundaries
 from ._kept import _restored, _unpacked
-from ._kind import NO_KIND, UNCOUNTED, Element, Kind, KindLike
-from ._kinds import ADDRESS, agreed, given_kind, whole
+from ._kind import NO_KIND, Element, Kind, KindLike
+from ._kinds import Addresses, agreed, given_kind, whole
 from ._numbers import typecode_of
+from ._ordered import LongAddresses
 from ._questions import Questions
 from ._sources import (
     OneRange,
@@ -37,7 +38,7 @@ class AnyRangeSet(Questions):
     """A set of elements as the ranges that have them: what `RangeSet` and `MutableRangeSet` have in common.
 
     Elements are whole numbers of 64 bits, from -2**63 to 2**63 - 1 or with `unsigned=True` from 0 to 2**64 - 1; or else floats, times,
-    dates, lengths of time or IPv4 addresses. The start of a range is in the set and its end is not. The end None says that a range has
+    dates, lengths of time, addresses, or other values that sort. The start of a range is in the set and its end is not. The end None says that a range has
     no end.
     """
 
@@ -75,7 +76,7 @@ class AnyRangeSet(Questions):
         """What the elements are, as `kind=` takes it; None for an empty set without a kind.
 
         It is one of `int`, `unsigned`, `float`, `datetime` for times without a time zone, `datetime[UTC]` for those with one, `date`,
-        `timedelta`, `IPv4Address`, and `datetime64[s]` or another unit of numpy's.
+        `timedelta`, `IPv4Address`, `IPv6Address`, `ordered` for other values that sort, and `datetime64[s]` or another unit of numpy's.
 
         >>> from datetime import date
         >>> RangeSet([(date(2026, 5, 1), date(2026, 5, 4))]).kind, RangeSet(kind="float").kind
@@ -226,7 +227,8 @@ class AnyRangeSet(Questions):
         return zip(items, items)
 
     def members(self) -> Iterator[Any]:
-        """The elements in order, one by one, up to the greatest if the set has no end. Floats can't be listed.
+        """The elements in order, one by one, up to the greatest if the set has no end. Floats, IPv6 addresses and values that sort
+        can't be listed.
 
         Cost: goes over all members.
 
@@ -234,13 +236,13 @@ class AnyRangeSet(Questions):
         [0, 1, 2, 7, 8]
         """
         boundaries, kind = self._now
-        if kind is FLOAT:
-            raise TypeError(f"{UNCOUNTED}, so they can't be listed")
+        if kind.uncounted:
+            raise TypeError(f"{kind.uncounted}, so they can't be listed")
         items = iter(boundaries)
         runs = (range(start, kind.most + 1 if end is None else end) for start, end in zip_longest(items, items))
         return kind.values(chain.from_iterable(runs))
 
-    def networks(self) -> Iterator[IPv4Network]:
+    def networks(self) -> Iterator[IPv4Network | IPv6Network]:
         """The fewest networks that have the addresses of the set between them, from the lowest on.
 
         Cost: goes over all ranges.
@@ -251,11 +253,12 @@ class AnyRangeSet(Questions):
         (['10.0.0.0/24', '10.0.1.0/25'], True)
         """
         boundaries, kind = self._now
-        if kind not in (ADDRESS, NO_KIND):
+        if not isinstance(kind, (Addresses, LongAddresses)) and kind is not NO_KIND:
             raise TypeError(f"expected a set of addresses, not of the kind {kind.name}")
-        items = iter(boundaries)
-        pairs = zip_longest(items, items, fillvalue=ADDRESS.most + 1)
-        return chain.from_iterable(summarize_address_range(IPv4Address(start), IPv4Address(end - 1)) for start, end in pairs)
+        items = kind.values(boundaries)
+        # None is above the greatest address.
+        last = ((start, type(start)(2**start.max_prefixlen - 1) if end is None else end - 1) for start, end in zip_longest(items, items))
+        return chain.from_iterable(starmap(summarize_address_range, last))
 
     def __reversed__(self) -> Iterator[tuple[Any, Any]]:
         kept = self._over(*self._now)
@@ -304,12 +307,14 @@ class AnyRangeSet(Questions):
         >>> RangeSet([(0, 10), (20, 30), (40, 50)]).overlapping(5, 25)
         RangeSet([(0, 10), (20, 30)])
         """
-        first, last, kind = codes_of_range(start, end, self._kind)
+        asked, known = self._seen
+        first, last, kind = codes_of_range(start, end, known)
         first = max(first, kind.least)
         if first > kind.most or (last is not None and last <= first):
             return self._over(kind.nothing, kind)
         last = None if last is None or last > kind.most else last
-        return self._over(self._beside((kind.range_list(first, last), kind))[0].overlapping(first, last), kind)
+        near = asked if isinstance(asked, Boundaries) else self._beside((kind.range_list(first, last), kind))[0]
+        return self._over(near.overlapping(first, last), kind)
 
     def gaps(self, start: Element | None = None, end: Element | None = None) -> Self:
         """The elements from `start` up to, not including, `end` that are no members.
@@ -330,8 +335,8 @@ class AnyRangeSet(Questions):
         >>> RangeSet([(0, 10), (20, 30)]).split(25)
         (RangeSet([(0, 10), (20, 25)]), RangeSet([(25, 30)]))
         """
-        items, kind = self._now
-        upper, kind = all_from(at, kind)
+        now = self._now
+        items, upper, kind = agreed(now, all_from(at, now[1]))
         left_len, right_start = _core.split(items, upper[0])
         above = items.part(right_start, len(items))
         if left_len <= right_start:
@@ -373,7 +378,7 @@ class AnyRangeSet(Questions):
         """
         result, kind = self._now
         for other in others:
-            if isinstance(other, AnyRangeSet):
+            if isinstance(other, AnyRangeSet) and not kind.is_ordered:
                 right, left, kind = other._beside((result, kind))
             else:
                 left, right, kind = agreed((result, kind), self._of(other))

@@ -6,10 +6,10 @@ from typing import TYPE_CHECKING, Any, Callable, Self, overload
 
 from . import _core
 from ._core import Boundaries, Chunks
-from ._kind import NO_KIND, Element, Kind, Now
+from ._kind import Element, Kind, Now
 from ._kinds import agreed
 from ._ranges import AnyRangeSet
-from ._sources import OneRange, Source, bounds_of, intersection_of, range_of, union_of
+from ._sources import OneRange, Source, codes_of_range, intersection_of, range_of, union_of
 
 
 class RangeSet(AnyRangeSet):
@@ -31,8 +31,17 @@ class RangeSet(AnyRangeSet):
     is that of the list of ranges, over which the set iterates as pairs.
 
     The numbers are those from -2**63 to 2**63 - 1, or with `unsigned=True` those from 0 to 2**64 - 1. Elements may also be floats,
-    times with or without a time zone, dates, `timedelta`, IPv4 addresses, or numpy's datetime64 of one unit. The first element
+    times with or without a time zone, dates, `timedelta`, addresses, or numpy's datetime64 of one unit. The first element
     or `kind=` decides the kind of a set. Two kinds don't mix, and are never equal; `RangeSet()`, of none yet, is as nothing of each.
+
+    Other values that sort, as texts, decimals, fractions, versions and tuples, are of the kind `ordered`: those of a set have to compare
+    with each other by `<`. A set of n ranges takes up to n log n comparisons to be made, or to be combined with another, and a question
+    log n. What a comparison raises is raised. `None` as a start, and `~`, are for texts, bytes and tuples, which have a least value.
+    Values that sort aren't counted, and so have no `covered`, `rank` or `members`.
+
+    >>> words = RangeSet([("a", "fig"), ("kiwi", "plum")])
+    >>> "apple" in words, words & RangeSet([("b", "m")]), ~words
+    (True, RangeSet([('b', 'fig'), ('kiwi', 'm')]), RangeSet([('', 'a'), ('fig', 'kiwi'), ('plum', None)]))
 
     In the signatures below `Source` is what a set is made of, `Element` an element, `OneRange` a pair, a `range`, a network or one
     element, and `KindLike` what `kind` takes: the name of a kind as the attribute `kind` has it, or a type of Python's.
@@ -56,7 +65,7 @@ class RangeSet(AnyRangeSet):
 
     def __hash__(self) -> int:
         boundaries, kind = self._now
-        return hash((bytes(boundaries), kind.name if boundaries else None))
+        return hash((kind.hashed(boundaries), kind.name if boundaries else None))
 
     # What never changes is its own copy, unless a subclass has attributes.
 
@@ -131,7 +140,7 @@ class MutableRangeSet(AnyRangeSet):
 
     Changes and questions take some microseconds also of a million ranges, and more for each range that they are given or find.
     The first change of a set that is new goes over all. So do `covered` and `rank`, `^` and `|`, a call that is given many ranges,
-    and after a change the first of `boundaries`, `copy`, an index or an iteration.
+    after a change the first of `boundaries`, `copy`, an index or an iteration, and each change of a set of values that sort.
 
     Threads may share a set: each call is whole. Those who read and then write as they read lock for themselves.
     """
@@ -168,12 +177,16 @@ class MutableRangeSet(AnyRangeSet):
     def _seen(self) -> tuple[Boundaries | Chunks, Kind]:
         chunks = self._chunks
         kind = chunks.kind
-        # Its kind may be decided next.
-        return (kind.nothing if kind is NO_KIND else chunks), kind
+        if kind.is_in_chunks:
+            return chunks, kind
+        # The next change may give it another kind.
+        return chunks.now
 
     def _beside(self, other: Now) -> tuple[Boundaries, Boundaries, Kind]:
         chunks = self._chunks
         kind = chunks.kind
+        if kind.is_ordered:
+            return agreed(chunks.now, other)
         _, right, kind = agreed((kind.nothing, kind), other)
         return chunks.near(right, kind), right, kind
 
@@ -183,6 +196,8 @@ class MutableRangeSet(AnyRangeSet):
     def _is_within(self, other: Now) -> bool:
         chunks = self._chunks
         kind = chunks.kind
+        if kind.is_ordered:
+            return super()._is_within(other)
         _, right, kind = agreed((kind.nothing, kind), other)
         return not chunks.meets(_core.negation(right), kind)
 
@@ -197,9 +212,26 @@ class MutableRangeSet(AnyRangeSet):
         chunks, done = self._chunks, False
         while not done:
             seen = chunks.kind
-            _, right, kind = agreed((seen.nothing, seen), other)
-            done = call(chunks, right, seen, kind)
+            if seen.is_ordered or other[1].is_ordered:
+                now = chunks.now
+                left, right, kind = agreed(now, other)
+                done = chunks.replace(getattr(_core, call.__name__)(left, right), kind, now)
+            else:
+                _, right, kind = agreed((seen.nothing, seen), other)
+                done = call(chunks, right, seen, kind)
         return self
+
+    def _change_range(self, call: Any, of_sets: Any, start: Any, end: Any) -> bool:
+        """Puts a range in or takes it out, by a call of the chunks for its numbers, or by one for sets. False if another thread has
+        decided the kind meanwhile."""
+        chunks = self._chunks
+        seen = chunks.kind
+        first, last, kind = codes_of_range(start, end, seen)
+        if kind.is_ordered:
+            self._change(of_sets, range_of(start, end, seen))
+            return True
+        done: bool = call(chunks, kind.checked(first), None if last is None else kind.checked(last), seen, kind)
+        return done
 
     def copy(self) -> Self:
         """Another set with the same members.
@@ -247,7 +279,7 @@ class MutableRangeSet(AnyRangeSet):
         """
         chunks = self._chunks
         # Else it takes no numbers, or another thread has decided the kind meanwhile.
-        while not (chunks.insert(start, end) or chunks.insert(*bounds_of(start, end, chunks.kind))):
+        while not (chunks.insert(start, end) or self._change_range(Chunks.insert, Chunks.union, start, end)):
             pass
 
     @overload
@@ -269,7 +301,7 @@ class MutableRangeSet(AnyRangeSet):
         MutableRangeSet([(0, 3), (5, 10)])
         """
         chunks = self._chunks
-        while not (chunks.remove(start, end) or chunks.remove(*bounds_of(start, end, chunks.kind))):
+        while not (chunks.remove(start, end) or self._change_range(Chunks.remove, Chunks.difference, start, end)):
             pass
 
     def update(self, *others: Source) -> None:

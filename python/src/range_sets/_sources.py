@@ -15,8 +15,9 @@ from ._core import Boundaries
 from ._floats import FLOAT, mirrored
 from ._kept import Kept
 from ._kind import NAN, NO_KIND, SIGNED, UNSIGNED, Element, Kind, Now
-from ._kinds import OF_FLOATS, kind_of, kind_of_first, mixed, whole
+from ._kinds import NETWORKS, OF_FLOATS, are_of_one, kind_of, kind_of_first, mixed, whole
 from ._numbers import typecode_of
+from ._ordered import ORDERED, Ordered
 from ._postgres import Bounds, half_open
 from ._times import AWARE, DELTA, NAIVE, Numpys, of_dtype
 
@@ -30,26 +31,36 @@ Source = Union[
     "AnyRangeSet",
     range,
     IPv4Network,
+    IPv6Network,
     Bounds,
     Pair,
-    "Iterable[AnyRangeSet | range | IPv4Network | Bounds | Pair | Iterable[Element | None]]",
+    "Iterable[AnyRangeSet | range | IPv4Network | IPv6Network | Bounds | Pair | Iterable[Element | None]]",
 ]
 
 # What a range is given as without a second argument for its end.
-OneRange = Union[Element, range, IPv4Network, Bounds, Pair]
+OneRange = Union[Element, range, IPv4Network, IPv6Network, Bounds, Pair]
 
 
-def codes_of_range(start: Any, end: Any, kind: Kind) -> tuple[int, int | None, Kind]:
+def codes_of_range(start: Any, end: Any, kind: Kind, is_asked: bool = True) -> tuple[int, int | None, Kind]:
     """The numbers of a start and an end, which may be out of range, and their kind. They are given as two arguments, as a pair, as a
-    `range`, as a network or as one element. Without an end, that is `...`."""
+    `range`, as a network or as one element. Without an end, that is `...`. Unless it `is_asked` of a set, values that sort get a kind of
+    their own."""
     if end is ...:
         found = kind_of(start)
         if found is not None:
             kind = found if kind is NO_KIND else kind
-            return *kind.codes_of_one(start), kind
-        start, end = ends_of(start, "a number, a start and an end, a pair or a range")
+            if not isinstance(kind, Ordered):
+                return *kind.codes_of_one(start), kind
+            start, end = kind.one(start)
+        else:
+            start, end = ends_of(start, "a number, a start and an end, a pair or a range")
     if kind is NO_KIND:
         kind = kind_of_first((start, end)) or SIGNED
+    if isinstance(kind, Ordered):
+        start = kind.first((end,)) if start is None else start
+        if not is_asked:
+            kind = kind.of((start,) if end is None else (start, end))
+        return *kind.ends_around(start, end), kind
     return kind.start(start), kind.end(end), kind
 
 
@@ -57,7 +68,7 @@ def range_of(start: Any, end: Any, kind: Kind) -> Now:
     """The set of a range that is given as `codes_of_range` takes it."""
     if kind.is_plain and (end is not ... or type(start) is int):
         return _core.range_list(start, end, kind.unsigned), kind
-    first, last, kind = codes_of_range(start, end, kind)
+    first, last, kind = codes_of_range(start, end, kind, is_asked=False)
     return kind.range_list(first, last), kind
 
 
@@ -66,12 +77,6 @@ def all_from(element: Any, kind: Kind) -> Now:
     if element is None:
         raise TypeError("expected an element, not None")
     return range_of(element, None, kind)
-
-
-def bounds_of(start: Any, end: Any, kind: Kind) -> tuple[Any, Any, Kind, Kind]:
-    """What `Chunks.insert` and `Chunks.remove` take of a range: its numbers, the kind that the set had, and the kind of the range."""
-    first, last, found = codes_of_range(start, end, kind)
-    return found.checked(first), None if last is None else found.checked(last), kind, found
 
 
 def ends_of(item: Any, wanted: str) -> tuple[Any, Any]:
@@ -83,8 +88,7 @@ def ends_of(item: Any, wanted: str) -> tuple[Any, Any]:
         if item.step != 1:
             raise ValueError(f"expected a range with step 1, not {item!r}")
         return item.start, item.stop
-    if isinstance(item, (IPv4Network, IPv6Network)):
-        # Of the latter the ends are no elements, as the error says.
+    if isinstance(item, NETWORKS):
         last = item.broadcast_address
         return item.network_address, None if int(last) + 1 == 2**item.max_prefixlen else last + 1
     if _has_intervals(item):
@@ -121,7 +125,7 @@ class Form(Enum):
 
 
 def _form_of(source: Any) -> Form:
-    if isinstance(source, (range, IPv4Network, IPv6Network)) or hasattr(source, "lower_inc") or _is_pair(source):
+    if isinstance(source, (range, *NETWORKS)) or hasattr(source, "lower_inc") or _is_pair(source):
         return Form.RANGE
     if isinstance(source, (list, tuple)):
         is_two = isinstance(source, tuple) and len(source) == 2 and all(map(_is_column, source))
@@ -171,7 +175,7 @@ def intersection_of(sets: list[Now], kind: Kind | None = None) -> Now:
     lists, found = of_one_kind(sets, kind)
     if not lists:
         found = SIGNED if found is NO_KIND else found
-        return found.all(), found
+        return found.everything()
     return _two_by_two(_core.intersection, lists), found
 
 
@@ -179,6 +183,8 @@ def of_one_kind(sets: list[Now], kind: Kind | None) -> tuple[list[Boundaries], K
     """The lists of sets of one kind, which a set of nothing takes if its own isn't known."""
     if kind is None:
         kind = next((it for _, it in sets if it is not NO_KIND), NO_KIND)
+    if isinstance(kind, Ordered):
+        return kind.agreed_of([_of_given_kind(it, kind) for it in sets])
     return [_of_given_kind(it, kind)[0] for it in sets], kind
 
 
@@ -205,6 +211,8 @@ def boundaries_of(items: Any, kind: Kind | None) -> Now:
 def values_of(items: Any, kind: Kind | None) -> Now:
     """The set of the elements in a buffer or an iterable."""
     numbers, kind = _numbers_of(items, kind)
+    if isinstance(kind, Ordered):
+        return gather([*map(kind.one, kind.values(range(len(kind.keys))))], kind)
     if kind is FLOAT:
         kind.codes_of_one(None)
     return kind.trimmed(_core.from_values(numbers)), kind
@@ -230,7 +238,7 @@ def _numbers_of(items: Any, kind: Kind | None) -> tuple[Any, Kind]:
         if times is not None:
             return _numbers_of_times(times, AWARE)
         values = list(items)
-        found = kind or kind_of_first(values) or NO_KIND
+        found = (kind or kind_of_first(values) or NO_KIND).of(values)
         return _array_of(values, found, kind is not None), found
     if _dimensions(items) != 1:
         raise TypeError("expected a list, with one dimension")
@@ -390,7 +398,7 @@ def _in_unit(now: Now, kind: Kind | None) -> Now:
 def _of_given_kind(now: Now, kind: Kind | None) -> Now:
     """The set, if it is of the kind that was given, or else a TypeError. A set of nothing whose kind isn't known takes that kind."""
     boundaries, found = now
-    if kind is None or found is kind:
+    if kind is None or are_of_one(found, kind):
         return now
     if found is NO_KIND and not boundaries:
         return kind.nothing, kind
@@ -429,7 +437,7 @@ def sets_of(source: Any, kind: Kind | None) -> list[Now]:
 
 
 def _source_error(source: Any, wanted: str) -> TypeError:
-    hint = "; from_values makes a set of elements" if "set" in wanted and kind_of(source) is not None else ""
+    hint = "; from_values makes a set of elements" if "set" in wanted and kind_of(source) not in (None, ORDERED) else ""
     return TypeError(f"expected {wanted}, not {reprlib.repr(source)}{hint}")
 
 
@@ -451,6 +459,10 @@ def _gather_each(items: list[Any] | tuple[Any, ...], kind: Kind | None) -> Now:
     if kind is None:
         known = (found for _, found in sets if found is not NO_KIND)
         kind = next(known, None) or kind_of_first(chain.from_iterable(pairs)) or (SIGNED if pairs else NO_KIND)
+    if isinstance(kind, Ordered):
+        ends = [it for it in chain.from_iterable(pairs) if it is not None]
+        pairs = [(kind.first(ends) if start is None else start, end) for start, end in pairs]
+        kind = kind.of(it for it in chain.from_iterable(pairs) if it is not None)
     codes = _codes_of(chain.from_iterable(it for it in pairs if it[0] is not None and it[1] is not None), kind, is_given)
     open_pairs = [it for it in pairs if it[0] is None or it[1] is None]
     if codes and (min(codes) < kind.least or max(codes) > kind.most):
