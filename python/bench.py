@@ -429,6 +429,7 @@ def asked_over_arrays(count):
         return
     of_arrays(numpy, count)
     of_tables(numpy, 10 * count)
+    of_depths(numpy, count)
 
 
 def alone(count):
@@ -508,6 +509,36 @@ def of_maps(count):
         )
     ]
     table([f"A map of {count:,} ranges", "Time"], rows)
+
+
+def of_depths(numpy, count):
+    """How many of some ranges have each number, beside a sort and a sum of numpy's."""
+
+    def depths(starts, ends):
+        places = numpy.concatenate([starts, ends])
+        order = numpy.argsort(places, kind="stable")
+        found = numpy.cumsum(numpy.repeat([1, -1], [len(starts), len(ends)])[order])
+        places = places[order]
+        last = numpy.append(places[1:] != places[:-1], True)
+        places, found = places[last], found[last]
+        changed = numpy.append(True, found[1:] != found[:-1])
+        return places[changed], found[changed]
+
+    def of_sets(sets):
+        flat = [numpy.asarray(it) for it in sets]
+        return depths(*(numpy.concatenate([it[side::2] for it in flat]) for side in (0, 1)))
+
+    rows = []
+    for label, sets, by_hand in (
+        *((f"{size:,} pairs", made_up(size, 1), lambda it: depths(*numpy.array(it).T)) for size in (1000, count, 10 * count)),
+        (f"a table of {count:,}", numpy.array(made_up(count, 1)), lambda it: depths(*it.T)),
+        ("50 sets", [RangeSet(made_up(count // 50, seed)) for seed in range(50)], of_sets),
+    ):
+        (mine, made), (its, (places, found)) = least(lambda: RangeMap.depth(sets)), least(lambda: by_hand(sets))
+        if made.get(places, 0).tolist() != found.tolist():
+            sys.exit("bench: the depths differ")
+        rows.append([label, shown(mine), shown(its), f"{mine / its:.2f}"])
+    table(["`RangeMap.depth` of", "Time", "numpy by hand", "Ratio"], rows)
 
 
 def main():

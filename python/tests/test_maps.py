@@ -1419,6 +1419,7 @@ class Meanwhile(unittest.TestCase):
             (lambda: made.__delitem__(some), None),
             (lambda: made.clear(), []),
             (lambda: made.copy(), items),
+            (lambda: (RangeMap.depth([some, (3, None)]), RangeMap.depth([(0, 500), (3, 900)])), items),
             (lambda: made[some], items),
             (lambda: (made.domain(), made.find("b"), made.gaps(3, 20), made.overlapping(3, 20)), items),
             (lambda: RangeMap(items), items),

@@ -4,6 +4,7 @@ import copy
 import functools
 import pickle
 import random
+import sys
 import unittest
 from decimal import Decimal
 from fractions import Fraction
@@ -11,6 +12,11 @@ from ipaddress import IPv4Address, IPv4Network, IPv6Address, IPv6Network, ip_net
 from itertools import chain
 
 from range_sets import MutableRangeSet, RangeMap, RangeSet
+
+try:
+    import _testcapi
+except ImportError:
+    _testcapi = None
 
 
 @functools.total_ordering
@@ -414,6 +420,29 @@ class Comparisons(unittest.TestCase):
                         pass
                     finally:
                         Counted.lies = None
+
+    @unittest.skipUnless(_testcapi, "this Python comes without _testcapi, which refuses memory")
+    @unittest.skipIf(sys.version_info >= (3, 12), "Pythons from 3.12 on don't outlive that a request of theirs is refused")
+    def test_refused_memory(self):
+        # An iterator that is left in the middle says that it was.
+        hook, sys.unraisablehook = sys.unraisablehook, lambda it: None
+        self.addCleanup(setattr, sys, "unraisablehook", hook)
+        for name, make, call in self.calls():
+            if not name.startswith(tuple(CHANGES) + tuple(MAP_CHANGES)):
+                continue
+            for count in range(3000):
+                made = make()
+                before = self.numbers(made)
+                _testcapi.set_nomemory(count, count + 1)
+                try:
+                    call(made)
+                    break
+                except MemoryError:
+                    pass
+                finally:
+                    _testcapi.remove_mem_hooks()
+                self.assertEqual(self.numbers(made), before, (name, count))
+            self.assertLess(count, 2999, name)
 
     def test_how_many_there_are(self):
         for count in (100, 1000):

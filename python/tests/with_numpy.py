@@ -627,5 +627,66 @@ class ManyAtOnce(unittest.TestCase):
             self.assertRaises((TypeError, ValueError, BufferError), steps.get_each, *given)
 
 
+class Depth(unittest.TestCase):
+    def test_a_table_has_a_set_in_each_row(self):
+        some = numpy.random.default_rng(75)
+        for case in range(60):
+            table = some.integers(-20, 20, (some.integers(0, 40), 2)) * 10 ** int(some.integers(0, 17))
+            tables = [table, table.astype(object), table.astype("M8[s]"), numpy.asfortranarray(table), table * 0.5]
+            tables += [abs(table).astype("u8"), (table // 10**16).astype("i4")]
+            for given in tables:
+                made, rows = RangeMap.depth(given), [tuple(row) for row in given.tolist()]
+                kind = made.kind
+                if kind is None or kind.startswith("datetime64"):
+                    rows = [tuple(row) for row in given]
+                # One map after the other, each with one range more.
+                counted = RangeMap(kind=kind)
+                for row in rows:
+                    counted = counted.combine(RangeMap([(row, 1)], kind=kind), lambda a, b: a + b)
+                self.assertEqual(made, counted, (case, given.dtype))
+                if kind in ("int", "unsigned"):
+                    self.assertEqual(RangeMap.depth(rows, kind=kind), counted, (case, given.dtype))
+                    self.assertEqual(RangeMap.depth([RangeSet([row], kind=kind) for row in rows]), counted, (case, given.dtype))
+
+    def test_what_is_no_table(self):
+        for wrong in (numpy.zeros((3, 3), int), numpy.zeros(4, int), numpy.zeros((2, 2), bool), numpy.array([[1, 2], [3, None]]).T[0]):
+            self.assertRaises(TypeError, RangeMap.depth, wrong)
+        for extreme in ([[-(2**63), 2**63 - 1], [0, -(2**63)], [5, 5]], [[2**63 - 2, 2**63 - 1]]):
+            made = RangeMap.depth(numpy.array(extreme))
+            self.assertEqual(list(made.items()), [((extreme[0][0], 2**63 - 1), 1)])
+
+
+class ValuesThatSort(unittest.TestCase):
+    def test_arrays(self):
+        made = RangeSet([("b", "d"), ("k", None)])
+        for values in (
+            ["a", "b", "c", "d", "z"],
+            numpy.array([["a", "b", "c", "d", "z"]], dtype=object),
+            numpy.array(["a", "b", "c", "d", "z"]),
+        ):
+            self.assertEqual(made.contains(values).ravel().tolist(), [False, True, True, False, True])
+            self.assertEqual(made.contains(values).shape, numpy.shape(values))
+        pairs = [("a", "b"), ("a", "bb"), ("d", "e"), ("c", "b"), ("e", "l"), ("c", "c")]
+        self.assertEqual(made.overlaps(*zip(*pairs)).tolist(), [bool(made.overlapping(*it)) for it in pairs])
+        starts, ends = made.range_at(numpy.array(["a", "c", "x"], dtype=object))
+        self.assertEqual((starts.tolist(), ends.tolist()), ([None, "b", "k"], [None, "d", None]))
+        self.assertEqual(numpy.asarray(made).tolist(), ["b", "d", "k"])
+        tuples = RangeSet([((1, "a"), (2, "b"))])
+        self.assertEqual(tuples.contains([(1, "a"), (1, "b"), (3, "")]).tolist(), [True, True, False])
+        self.assertEqual(numpy.asarray(tuples).tolist(), [(1, "a"), (2, "b")])
+        self.assertEqual(RangeMap([(("b", "d"), 5)]).get(numpy.array(["a", "b", "c", "d"]), 0).tolist(), [0, 5, 5, 0])
+        self.assertEqual(made.contains(numpy.array(["c", float("nan")], dtype=object)).tolist(), [True, False])
+
+    def test_what_is_refused(self):
+        for call in (
+            lambda: RangeSet(numpy.array([[1, 2]]), kind="ordered"),
+            lambda: RangeSet.from_values(numpy.array([1, 2]), kind="ordered"),
+            lambda: RangeSet([("a", "b")]).covered_within(["a"], ["b"]),
+            lambda: RangeSet([("a", "b")]).rank(numpy.array(["a"])),
+            lambda: RangeSet([("a", "b")]).contains([1, 2]),
+        ):
+            self.assertRaises(TypeError, call)
+
+
 if __name__ == "__main__":
     unittest.main()

@@ -191,12 +191,17 @@ class Frames(unittest.TestCase):
         days, times = RangeSet([(date(2026, 5, 1), date(2026, 5, 3))]), pandas.Series(pandas.to_datetime(["2026-05-02", "2026-05-03"]))
         for call, said in (
             (lambda: RangeMap(self.frame), r"not a table: zip\(zip\(t\['start'\], t\['end'\]\), t\['value'\]\) has them"),
-            (lambda: RangeMap.depth(self.frame), r"not a table: zip\(t\['start'\], t\['end'\]\) has the range of each row"),
+            (lambda: RangeMap.depth(self.frame), r"not a table: t\[\['start', 'end'\]\] has the range of each row"),
             (lambda: days.contains(times), r"a column's .dt.date has dates, and so has an array.astype\('M8\[D\]'\)"),
         ):
             self.assertRaisesRegex(TypeError, said, call)
         self.assertEqual(RangeMap(zip(zip(start, end), self.frame["name"])).find("c"), RangeSet([(3, 8)]))
-        self.assertEqual(RangeMap.depth(zip(start, end)).find(2), RangeSet([(3, 5)]))
+        intervals = pandas.arrays.IntervalArray.from_arrays(start, end, closed="left")
+        for table in (zip(start, end), self.frame[["start", "end"]], intervals, pandas.IntervalIndex(intervals), pandas.Series(intervals)):
+            self.assertEqual(RangeMap.depth(table).find(2), RangeSet([(3, 5)]))
+        for zone in (None, "Europe/Berlin"):
+            frame = pandas.DataFrame({at: pandas.to_datetime(self.frame[at], unit="h").dt.tz_localize(zone) for at in ("start", "end")})
+            self.assertEqual(RangeMap.depth(frame), RangeMap.depth(zip(frame["start"], frame["end"])))
         for asked in (times.dt.date, times.to_numpy().astype("M8[D]")):
             self.assertEqual(days.contains(asked).tolist(), [True, False])
 

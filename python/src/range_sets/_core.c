@@ -223,8 +223,8 @@ static bool read_pairs(PyObject *pairs, bool was_list, bool is_signed, uint64_t 
     return fits;
 }
 
-/* The union of a pair of whole numbers, or of a list or a tuple of these, or None for anything else. */
-static PyObject *core_from_pairs(PyObject *module, PyObject *const *args, Py_ssize_t n)
+/* The numbers of a pair of whole numbers, or of a list or a tuple of these, in bytes, or None for anything else. */
+static PyObject *core_numbers_of_pairs(PyObject *module, PyObject *const *args, Py_ssize_t n)
 {
     if (!has_arguments(n, 2)) return NULL;
     bool is_signed = args[1] == Py_False;
@@ -238,12 +238,18 @@ static PyObject *core_from_pairs(PyObject *module, PyObject *const *args, Py_ssi
     bool fits = out != NULL
                 && (source == PAIR ? read_pair(pairs, is_signed, out) : read_pairs(pairs, source == LIST_OF_PAIRS, is_signed, out));
     Py_DECREF(pairs);
-    if (out == NULL) return NULL;
-    if (fits) return arranged(bytes, 2 * len, is_signed, arrange_from_ranges);
+    if (out == NULL || fits) return bytes;
     /* It is read anew, and the error says more. */
     PyErr_Clear();
     Py_DECREF(bytes);
     Py_RETURN_NONE;
+}
+
+/* The union of the same. */
+static PyObject *core_from_pairs(PyObject *module, PyObject *const *args, Py_ssize_t n)
+{
+    PyObject *bytes = core_numbers_of_pairs(module, args, n);
+    return bytes == NULL || bytes == Py_None ? bytes : arranged(bytes, PyBytes_GET_SIZE(bytes) / 8, args[1] == Py_False, arrange_from_ranges);
 }
 
 /* ---- Questions ---- */
@@ -449,7 +455,7 @@ static PyMethodDef methods[] = {
     METHOD(is_empty), METHOD(contains), METHOD(contains_range), METHOD(is_disjoint), METHOD(intersects), METHOD(is_subset),
     METHOD(equal), METHOD(range_at), METHOD(split), METHOD(rank), METHOD(first_fit), METHOD(select), METHOD(covered), METHOD(span), METHOD(parse),
     METHOD_OF_ONE(print), METHOD_OF_ONE(pack), METHOD_OF_ONE(unpack), METHOD(over), METHOD(from_values), METHOD(places), METHOD(ranks),
-    METHOD(contains_each), METHOD(range_list), METHOD(from_pairs), METHOD(ends_and_values), METHOD(mirror), METHOD_OF_ONE(lengths_of_floats),
+    METHOD(contains_each), METHOD(range_list), METHOD(from_pairs), METHOD(numbers_of_pairs), METHOD(depths), METHOD(ends_and_values), METHOD(mirror), METHOD_OF_ONE(lengths_of_floats),
     {NULL, NULL, 0, NULL},
 };
 

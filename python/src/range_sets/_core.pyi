@@ -27,6 +27,13 @@ class Boundaries:
 # The union of pairs of whole numbers in a list or a tuple, or None for anything else.
 def from_pairs(source: Any, unsigned: bool, /) -> Boundaries | None: ...
 
+# The numbers of the same pairs, in bytes.
+def numbers_of_pairs(source: Any, unsigned: bool, /) -> bytes | None: ...
+
+# How many of some ranges have each number: what `Steps.change` makes a map of. They are given by their starts and ends in turn, or by
+# their starts if they have no end.
+def depths(numbers: Buffer, open: Buffer, /) -> tuple[bytes, tuple[int, ...]]: ...
+
 # The boundaries of a range: one if it has no end, and none if it is empty or reversed. An end `...` says that it is one number.
 def range_list(start: SupportsIndex | None, end: Any, unsigned: bool, /) -> Boundaries: ...
 

@@ -108,6 +108,7 @@ PyObject *core_range_list(PyObject *module, PyObject *const *args, Py_ssize_t n)
 PyObject *list_and_kind(PyObject *list, PyObject *kind);
 
 /* Numbers of floats. */
+PyObject *core_depths(PyObject *module, PyObject *const *args, Py_ssize_t n);
 PyObject *core_mirror(PyObject *module, PyObject *const *args, Py_ssize_t n);
 PyObject *core_lengths_of_floats(PyObject *module, PyObject *object);
 

@@ -6,7 +6,6 @@ import copy
 import reprlib
 import sys
 from array import array
-from collections import Counter
 from ipaddress import IPv4Network, IPv6Network
 from itertools import islice
 from typing import Any, Callable, Iterable, Mapping, Self, TypeVar, Union
@@ -14,13 +13,13 @@ from typing import Any, Callable, Iterable, Mapping, Self, TypeVar, Union
 from . import _core
 from ._core import Steps
 from ._kept import MANY, SHOWN
-from ._kind import NO_KIND, SIGNED, Kind, KindLike
+from ._kind import NO_KIND, SIGNED, Array, Kind, KindLike
 from ._kinds import are_alike, are_of_one, given_kind, kind_of_pickle
 from ._map_questions import NOTHING, Keys, MapQuestions, numbered_with
 from ._numbers import in_this_order, least, packed
 from ._ordered import ORDERED, Ordered
 from ._ranges import AnyRangeSet
-from ._sources import Source, items_of, of_one_kind, sets_of
+from ._sources import Source, ends_of_sets, items_of
 
 K = TypeVar("K")
 V = TypeVar("V")
@@ -211,30 +210,18 @@ class RangeMap(MapQuestions[K, V]):
     # ---- Many sets, two maps ----
 
     @staticmethod
-    def depth(sets: Iterable[Source], *, unsigned: bool | None = None, kind: KindLike = None) -> RangeMap[Any, int]:
-        """How many of some sets have each key; a key that none has gets no value. A set may be a pair, or anything that makes one.
+    def depth(sets: Iterable[Source] | Array, *, unsigned: bool | None = None, kind: KindLike = None) -> RangeMap[Any, int]:
+        """How many of some sets have each key; a key that none has gets no value. A set may be a pair, or anything that makes one. Of a
+        table, as a numpy array, a data frame or intervals of pandas, each row is a set.
 
-        Cost: n log n steps for n boundaries, whereas `combine` goes through both maps each time.
+        Cost: that of sorting the boundaries.
 
         >>> RangeMap.depth([(0, 5), (3, 9), RangeSet([(4, 6), (20, None)])])
         RangeMap([((0, 3), 1), ((3, 4), 2), ((4, 5), 3), ((5, 6), 2), ((6, 9), 1), ((20, None), 1)])
         """
-        wanted = given_kind(kind, unsigned)
-        lists, found = of_one_kind(sets_of(sets, wanted), wanted)
-        changes: Counter[int] = Counter()
-        for boundaries in lists:
-            changes.update(memoryview(boundaries)[::2])  # type: ignore[arg-type]
-            changes.subtract(memoryview(boundaries)[1::2])  # type: ignore[arg-type]
-        ends: list[int] = []
-        depths: list[int] = []
-        depth, places = 0, [at for at in sorted(changes) if changes[at]]
-        for start, end in zip(places, [*places[1:], least(found.unsigned)]):
-            depth += changes[start]
-            if depth:
-                ends += start, end
-                depths.append(depth)
+        numbers, starts, found = ends_of_sets(sets, given_kind(kind, unsigned))
         made: RangeMap[Any, int] = RangeMap._empty(found)
-        made._steps.change(packed(ends, found.unsigned), tuple(depths))
+        made._steps.change(*_core.depths(numbers, starts))
         return made
 
     def combine(self, other: RangeMap[K, V], how: Callable[[V, V], V], missing: V = NOTHING) -> RangeMap[K, V]:
