@@ -65,10 +65,6 @@ class Kind:
     unsigned = False
     # Whether the extension reads its elements itself.
     is_plain = False
-    # Whether its numbers are the ranks of a set's own boundaries, as of values that sort.
-    is_ordered = False
-    # What an error says if its elements aren't counted one by one.
-    uncounted = ""
     # What an error adds to say between which elements one has to lie.
     span = ""
     # numpy's type of arrays that have these numbers as they lie.
@@ -79,8 +75,10 @@ class Kind:
         # The boundaries of the empty set.
         self.nothing = _core.range_list(0, 0, self.unsigned)
         self.is_whole = isinstance(self, Whole)
-        # Whether a set that changes is asked in its chunks.
-        self.is_in_chunks = not self.is_ordered
+        # Whether its numbers are the ranks of a set's own boundaries, as of values that sort, or a set that changes is asked in chunks.
+        self.is_ordered, self.is_in_chunks = False, True
+        # What an error says if its elements aren't counted one by one.
+        self.uncounted = ""
 
     def code(self, value: Any) -> int:
         """The number of an element, which may lie outside of the kind's; a TypeError if it is no element of the kind."""
@@ -152,7 +150,7 @@ class Kind:
         return _core.range_list(self.least, None, self.unsigned), self
 
     def hashed(self, boundaries: Boundaries) -> Any:
-        """What is hashed of a set."""
+        """What is hashed of a set's boundaries."""
         return bytes(boundaries)
 
     @property

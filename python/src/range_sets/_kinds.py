@@ -42,7 +42,7 @@ _KINDS = (SIGNED, UNSIGNED, FLOAT, DATE, DELTA, ADDRESS, LONG_ADDRESS, NAIVE, AW
 _NAMED: dict[str | type, Kind] = {it.name: it for it in _KINDS}
 _NAMED |= {int: SIGNED, float: FLOAT, date: DATE, datetime: NAIVE, timedelta: DELTA, IPv4Address: ADDRESS, IPv6Address: LONG_ADDRESS}
 # What is a range of addresses.
-NETWORKS = (IPv4Network, IPv6Network)
+NETWORKS: tuple[type[IPv4Network], type[IPv6Network]] = (IPv4Network, IPv6Network)
 
 
 def given_kind(kind: Any, unsigned: bool | None = None) -> Kind | None:
@@ -159,7 +159,7 @@ def are_of_one(kind: Kind, other: Kind) -> bool:
 
 def are_alike(kind: Kind, other: Kind, has_any: bool) -> bool:
     """Whether what is of two kinds may be equal: what has nothing, and no kind yet, is as nothing of each."""
-    return are_of_one(kind, other) or (not has_any and NO_KIND in (kind, other))
+    return kind is other or (not has_any and NO_KIND in (kind, other)) or are_of_one(kind, other)
 
 
 def mixed(kind: Kind, other: Kind) -> str:

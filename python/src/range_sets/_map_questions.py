@@ -25,6 +25,7 @@ D = TypeVar("D")
 Item = tuple[tuple[K, Union[K, None]], V]
 # What stands in the brackets of a change, or of a part.
 Keys = Union[slice, range, IPv4Network, IPv6Network, AnyRangeSet]
+_PARTS = (slice, range, AnyRangeSet, *NETWORKS)
 
 
 class _Nothing:
@@ -89,7 +90,7 @@ class MapQuestions(Attributes, Generic[K, V]):
         ...
 
     def __getitem__(self, key: Any) -> Any:
-        if isinstance(key, (slice, range, AnyRangeSet, *NETWORKS)):
+        if isinstance(key, _PARTS):
             return self._part(key)
         found = self._found(key, NOTHING)
         if found is NOTHING:
@@ -99,7 +100,7 @@ class MapQuestions(Attributes, Generic[K, V]):
     def _part(self, keys: Keys) -> Self:
         ranges, kind = self._ranges(keys, self._kind)
         self._check_kind(kind)
-        if isinstance(kind, Ordered):
+        if kind.is_ordered:
             steps, both = numbered_with(self._steps, ranges, kind)
             return self._with_steps(steps.part(list_of(both)))
         return self._with_steps(self._steps.part(ranges))
@@ -250,11 +251,12 @@ class MapQuestions(Attributes, Generic[K, V]):
         >>> m.overlapping(5, 25), m.overlapping((30, 40))
         ([((0, 10), 'low'), ((20, 30), 'high')], [])
         """
-        first, last, kind = codes_of_range(start, end, self._kind)
-        self._check_kind(kind)
-        if kind.is_ordered:
-            return [*self._steps.items(first, last)]
-        wanted = kind.range_list(first, last)
+        known = self._kind
+        if known.is_ordered:
+            return [*self._steps.items(*codes_of_range(start, end, known)[:2])]
+        wanted, kind = range_of(start, end, known)
+        if kind is not known:
+            self._check_kind(kind)
         return [*self._steps.items(*_ends(wanted))] if wanted else []
 
     def gaps(self, start: Element | None = None, end: Element | None = None) -> RangeSet:
@@ -265,11 +267,13 @@ class MapQuestions(Attributes, Generic[K, V]):
         >>> RangeMap([((0, 10), "low"), ((20, 30), "high")]).gaps(5, 25)
         RangeSet([(10, 20)])
         """
-        if self._kind.is_ordered:
+        known = self._kind
+        if known.is_ordered:
             return self.domain().gaps(start, end)
-        wanted, kind = range_of(start, end, self._kind)
-        self._check_kind(kind)
-        if wanted and self._kind is kind:
+        wanted, kind = range_of(start, end, known)
+        if kind is not known:
+            self._check_kind(kind)
+        if wanted and known is kind:
             wanted = _core.difference(wanted, self._steps.domain(*_ends(wanted)))
         return RangeSet._over(wanted, kind)
 
@@ -304,7 +308,7 @@ class MapQuestions(Attributes, Generic[K, V]):
         return found
 
     def _check_kind(self, kind: Kind) -> None:
-        if not are_of_one(kind, self._kind) and self._kind is not NO_KIND:
+        if kind is not self._kind and self._kind is not NO_KIND and not are_of_one(kind, self._kind):
             raise TypeError(mixed(self._kind, kind))
 
 
@@ -313,7 +317,7 @@ def _ends(one: Boundaries) -> tuple[int, int | None]:
     return one[0], one[1] if len(one) > 1 else None
 
 
-def numbered_with(steps: Steps, ends: Iterable[int], kind: Ordered) -> tuple[Steps, list[int]]:
+def numbered_with(steps: Steps, ends: Iterable[int], kind: Any) -> tuple[Steps, list[int]]:
     """A map whose keys sort, made anew, and ends of ranges, by one kind of both. The least number as an end says that there is none."""
     codes, values = steps.ends_and_values()
     mine = array("q", codes)

@@ -17,7 +17,7 @@ from ._kind import NO_KIND, SIGNED, Array, Kind, KindLike
 from ._kinds import are_alike, are_of_one, given_kind, kind_of_pickle
 from ._map_questions import NOTHING, Keys, MapQuestions, numbered_with
 from ._numbers import in_this_order, least, packed
-from ._ordered import ORDERED, Ordered
+from ._ordered import ORDERED
 from ._ranges import AnyRangeSet
 from ._sources import Source, ends_of_sets, items_of
 
@@ -132,9 +132,9 @@ class RangeMap(MapQuestions[K, V]):
             known = steps.kind
             ranges, kind = self._ranges(keys, known)
             each = values * ((len(ranges) + 1) // 2) if values else None
-            done = self._anew(steps, ranges, each, kind) if isinstance(kind, Ordered) else steps.change(ranges, each, known, kind)
+            done = self._anew(steps, ranges, each, kind) if kind.is_ordered else steps.change(ranges, each, known, kind)
 
-    def _anew(self, steps: Steps, ranges: Iterable[int], values: tuple[V, ...] | None, kind: Ordered) -> bool:
+    def _anew(self, steps: Steps, ranges: Iterable[int], values: tuple[V, ...] | None, kind: Kind) -> bool:
         """Changes a map whose keys sort, unless it has changed since."""
         self._check_kind(kind)
         made, ends = numbered_with(steps, ranges, kind)
@@ -162,7 +162,7 @@ class RangeMap(MapQuestions[K, V]):
             steps = self._steps
             known = steps.kind
             ends, values, kind = self._read(given, known)
-            if isinstance(kind, Ordered):
+            if kind.is_ordered:
                 done = self._anew(steps, array("q", ends), values, kind)
             else:
                 done = steps.change(ends, values, known, kind)
@@ -243,7 +243,7 @@ class RangeMap(MapQuestions[K, V]):
             self._check_kind(other._kind)
         kind = other._kind if self._kind is NO_KIND else self._kind
         left, right = (it._steps if are_of_one(it._kind, kind) else Steps(kind, kind.unsigned) for it in (self, other))
-        if isinstance(right.kind, Ordered):
+        if right.kind.is_ordered:
             ends, values = right.ends_and_values()
             left, numbers = numbered_with(left, array("q", ends), right.kind)
             right = Steps(left.kind, False)

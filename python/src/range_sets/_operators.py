@@ -9,7 +9,7 @@ from ._core import Boundaries
 from ._kept import Kept
 from ._kind import Kind, Now
 from ._kinds import agreed, are_alike, whole
-from ._ordered import Ordered
+from ._ordered import is_same
 
 if TYPE_CHECKING:
     from ._ranges import AnyRangeSet
@@ -40,9 +40,11 @@ class Operators(Kept):
     def _both(self, other: Operators) -> tuple[Boundaries, Boundaries, Kind]:
         """At least the ranges of both sets that have elements of the other, and the kind of both. The set of more ranges is read beside the
         other one alone; of values that sort the left one is read first, whose own stay."""
-        if len(self) < len(other) and not self._kind.is_ordered:
-            right, left, kind = other._beside(self._now)
-            return left, right, kind
+        if len(self) < len(other):
+            now = self._now
+            if not now[1].is_ordered:
+                right, left, kind = other._beside(now)
+                return left, right, kind
         return self._beside(other._now)
 
     # What `|`, `&`, `-` and `^` do if one of the sets changes, or their kinds differ.
@@ -55,9 +57,10 @@ class Operators(Kept):
         return self._over(_core.intersection(left, right), kind)
 
     def _difference(self, other: AnyRangeSet) -> Self:
-        if self._kind.is_ordered:
+        now = self._now
+        if now[1].is_ordered:
             return self._combined(_core.difference, other._now)
-        right, left, kind = other._beside(self._now)
+        right, left, kind = other._beside(now)
         return self._over(_core.difference(left, right), kind)
 
     def _symmetric_difference(self, other: AnyRangeSet) -> Self:
@@ -67,8 +70,10 @@ class Operators(Kept):
         boundaries, kind = self._now
         if kind.is_whole:
             return self._over(_core.negation(boundaries), whole(kind.unsigned))
-        left, right, kind = agreed(kind.everything(), (boundaries, kind))
-        return self._over(_core.difference(left, right), kind)
+        everything, found = kind.everything()
+        if found is not kind:
+            everything, boundaries, found = agreed((everything, found), (boundaries, kind))
+        return self._over(_core.difference(everything, boundaries), found)
 
     def __eq__(self, other: object) -> bool:
         if not isinstance(other, Operators):
@@ -76,8 +81,8 @@ class Operators(Kept):
         if len(self) != len(other):
             return False
         (left, kind), (right, other_kind) = self._now, other._now
-        if isinstance(kind, Ordered) and left:
-            return kind.is_same(left, other_kind, right)
+        if kind.is_ordered and left:
+            return is_same(left, kind, right, other_kind)
         return are_alike(kind, other_kind, bool(left)) and (not left or _core.equal(left, right))
 
     # For `>=` and `>` Python asks the other set by these.

@@ -21,7 +21,6 @@ class Ordered(Kind):
     as which it is a member or not.
     """
 
-    is_ordered = True
     # The least value of each type that has one, and what an error says of others.
     leasts: tuple[tuple[type, Any], ...] = ((str, ""), (bytes, b""), (tuple, ()))
 
@@ -29,6 +28,7 @@ class Ordered(Kind):
         self, keys: Sequence[Any] = (), name: str = "ordered", element: str = "a value that sorts", plural: str = "values that sort"
     ) -> None:
         super().__init__(name, element, 0, len(keys) - 1, plural)
+        self.is_ordered, self.is_in_chunks = True, False
         # What stands for the boundaries. It is never changed.
         self.keys = keys
         self.uncounted = f"{plural} aren't counted one by one"
@@ -112,11 +112,7 @@ class Ordered(Kind):
 
     # ---- Questions ----
 
-    def is_same(self, mine: Boundaries, other: Kind, others: Boundaries) -> bool:
-        """Whether another set has equal boundaries."""
-        return isinstance(other, Ordered) and self.name == other.name and [*self.kept(mine)] == [*other.kept(others)]
-
-    def hashed(self, boundaries: Boundaries) -> Any:
+    def hashed(self, boundaries: Boundaries) -> tuple[Any, ...]:
         return tuple(self.kept(boundaries))
 
     def covered(self, asked: Any) -> Any:
@@ -172,6 +168,11 @@ class LongAddresses(Ordered):
 
 _MOST = 2**128 - 1
 ORDERED, LONG_ADDRESS = Ordered(), LongAddresses()
+
+
+def is_same(mine: Boundaries, kind: Any, others: Boundaries, other: Any) -> bool:
+    """Whether two sets have equal boundaries."""
+    return kind.name == other.name and [*kind.kept(mine)] == [*other.kept(others)]
 
 
 def first_gap(ends: list[IPv6Address], count: int) -> IPv6Address | None:

@@ -14,7 +14,7 @@ from ._kept import Kept
 from ._kind import NO_KIND, Array, Element, Kind, Now
 from ._kinds import NETWORKS, asked_error, kind_of, kind_of_first
 from ._operators import Operators
-from ._ordered import LongAddresses, first_gap
+from ._ordered import first_gap
 from ._sources import OneRange, Source, all_from, codes_of_range, gather, range_of
 
 
@@ -212,7 +212,7 @@ class Questions(Operators):
         count = kind.count(length)
         if count < 0:
             raise ValueError("expected a length from 0 on")
-        if isinstance(kind, LongAddresses):
+        if kind.is_ordered:
             left, right, both = self._beside(range_of(start, end, kind))
             return first_gap([*both.values(_core.difference(right, left) if count else right)], count)
         first, last = kind.checked(kind.start(start)), kind.end(end)

@@ -8,7 +8,6 @@ from itertools import chain, starmap, zip_longest
 from typing import TYPE_CHECKING, Any, Iterable, Iterator, Never, Self, SupportsIndex, overload
 
 from . import _core, _postgres, _text
-from ._core import Boundaries
 from ._kept import _restored, _unpacked
 from ._kind import NO_KIND, Element, Kind, KindLike
 from ._kinds import Addresses, agreed, given_kind, whole
@@ -307,13 +306,16 @@ class AnyRangeSet(Questions):
         >>> RangeSet([(0, 10), (20, 30), (40, 50)]).overlapping(5, 25)
         RangeSet([(0, 10), (20, 30)])
         """
-        asked, known = self._seen
+        known, near = self._kind, None
+        if known.is_ordered:
+            near, known = self._now
         first, last, kind = codes_of_range(start, end, known)
         first = max(first, kind.least)
         if first > kind.most or (last is not None and last <= first):
             return self._over(kind.nothing, kind)
         last = None if last is None or last > kind.most else last
-        near = asked if isinstance(asked, Boundaries) else self._beside((kind.range_list(first, last), kind))[0]
+        if near is None:
+            near = self._beside((kind.range_list(first, last), kind))[0]
         return self._over(near.overlapping(first, last), kind)
 
     def gaps(self, start: Element | None = None, end: Element | None = None) -> Self:
@@ -335,8 +337,10 @@ class AnyRangeSet(Questions):
         >>> RangeSet([(0, 10), (20, 30)]).split(25)
         (RangeSet([(0, 10), (20, 25)]), RangeSet([(25, 30)]))
         """
-        now = self._now
-        items, upper, kind = agreed(now, all_from(at, now[1]))
+        items, kind = self._now
+        upper, found = all_from(at, kind)
+        if found is not kind:
+            items, upper, kind = agreed((items, kind), (upper, found))
         left_len, right_start = _core.split(items, upper[0])
         above = items.part(right_start, len(items))
         if left_len <= right_start:

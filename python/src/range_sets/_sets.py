@@ -65,7 +65,8 @@ class RangeSet(AnyRangeSet):
 
     def __hash__(self) -> int:
         boundaries, kind = self._now
-        return hash((kind.hashed(boundaries), kind.name if boundaries else None))
+        numbers = kind.hashed(boundaries) if kind.is_ordered else bytes(boundaries)
+        return hash((numbers, kind.name if boundaries else None))
 
     # What never changes is its own copy, unless a subclass has attributes.
 
@@ -224,13 +225,12 @@ class MutableRangeSet(AnyRangeSet):
     def _change_range(self, call: Any, of_sets: Any, start: Any, end: Any) -> bool:
         """Puts a range in or takes it out, by a call of the chunks for its numbers, or by one for sets. False if another thread has
         decided the kind meanwhile."""
-        chunks = self._chunks
-        seen = chunks.kind
+        seen = self._chunks.kind
         first, last, kind = codes_of_range(start, end, seen)
         if kind.is_ordered:
             self._change(of_sets, range_of(start, end, seen))
             return True
-        done: bool = call(chunks, kind.checked(first), None if last is None else kind.checked(last), seen, kind)
+        done: bool = call(kind.checked(first), None if last is None else kind.checked(last), seen, kind)
         return done
 
     def copy(self) -> Self:
@@ -279,7 +279,7 @@ class MutableRangeSet(AnyRangeSet):
         """
         chunks = self._chunks
         # Else it takes no numbers, or another thread has decided the kind meanwhile.
-        while not (chunks.insert(start, end) or self._change_range(Chunks.insert, Chunks.union, start, end)):
+        while not (chunks.insert(start, end) or self._change_range(chunks.insert, Chunks.union, start, end)):
             pass
 
     @overload
@@ -301,7 +301,7 @@ class MutableRangeSet(AnyRangeSet):
         MutableRangeSet([(0, 3), (5, 10)])
         """
         chunks = self._chunks
-        while not (chunks.remove(start, end) or self._change_range(Chunks.remove, Chunks.difference, start, end)):
+        while not (chunks.remove(start, end) or self._change_range(chunks.remove, Chunks.difference, start, end)):
             pass
 
     def update(self, *others: Source) -> None:

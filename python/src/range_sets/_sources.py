@@ -41,7 +41,7 @@ Source = Union[
 OneRange = Union[Element, range, IPv4Network, IPv6Network, Bounds, Pair]
 
 
-def codes_of_range(start: Any, end: Any, kind: Kind, is_asked: bool = True) -> tuple[int, int | None, Kind]:
+def codes_of_range(start: Any, end: Any, kind: Any, is_asked: bool = True) -> tuple[int, int | None, Kind]:
     """The numbers of a start and an end, which may be out of range, and their kind. They are given as two arguments, as a pair, as a
     `range`, as a network or as one element. Without an end, that is `...`. Unless it `is_asked` of a set, values that sort get a kind of
     their own."""
@@ -49,18 +49,20 @@ def codes_of_range(start: Any, end: Any, kind: Kind, is_asked: bool = True) -> t
         found = kind_of(start)
         if found is not None:
             kind = found if kind is NO_KIND else kind
-            if not isinstance(kind, Ordered):
-                return *kind.codes_of_one(start), kind
+            if not kind.is_ordered:
+                first, last = kind.codes_of_one(start)
+                return first, last, kind
             start, end = kind.one(start)
         else:
             start, end = ends_of(start, "a number, a start and an end, a pair or a range")
     if kind is NO_KIND:
         kind = kind_of_first((start, end)) or SIGNED
-    if isinstance(kind, Ordered):
+    if kind.is_ordered:
         start = kind.first((end,)) if start is None else start
         if not is_asked:
             kind = kind.of((start,) if end is None else (start, end))
-        return *kind.ends_around(start, end), kind
+        first, last = kind.ends_around(start, end)
+        return first, last, kind
     return kind.start(start), kind.end(end), kind
 
 
@@ -106,6 +108,9 @@ def ends_of(item: Any, wanted: str) -> tuple[Any, Any]:
     raise _source_error(item, wanted)
 
 
+_ONE_RANGE = (range, *NETWORKS)
+
+
 class Form(Enum):
     """What a source is that is no set, by which its ranges are read."""
 
@@ -125,7 +130,7 @@ class Form(Enum):
 
 
 def _form_of(source: Any) -> Form:
-    if isinstance(source, (range, *NETWORKS)) or hasattr(source, "lower_inc") or _is_pair(source):
+    if isinstance(source, _ONE_RANGE) or hasattr(source, "lower_inc") or _is_pair(source):
         return Form.RANGE
     if isinstance(source, (list, tuple)):
         is_two = isinstance(source, tuple) and len(source) == 2 and all(map(_is_column, source))
@@ -183,7 +188,7 @@ def of_one_kind(sets: list[Now], kind: Kind | None) -> tuple[list[Boundaries], K
     """The lists of sets of one kind, which a set of nothing takes if its own isn't known."""
     if kind is None:
         kind = next((it for _, it in sets if it is not NO_KIND), NO_KIND)
-    if isinstance(kind, Ordered):
+    if kind.is_ordered and isinstance(kind, Ordered):
         return kind.agreed_of([_of_given_kind(it, kind) for it in sets])
     return [_of_given_kind(it, kind)[0] for it in sets], kind
 
@@ -491,7 +496,7 @@ def _gather_each(items: list[Any] | tuple[Any, ...], kind: Kind | None) -> Now:
     if kind is None:
         known = (found for _, found in sets if found is not NO_KIND)
         kind = next(known, None) or kind_of_first(chain.from_iterable(pairs)) or (SIGNED if pairs else NO_KIND)
-    if isinstance(kind, Ordered):
+    if kind.is_ordered and isinstance(kind, Ordered):
         ends = [it for it in chain.from_iterable(pairs) if it is not None]
         pairs = [(kind.first(ends) if start is None else start, end) for start, end in pairs]
         kind = kind.of(it for it in chain.from_iterable(pairs) if it is not None)
