@@ -4,8 +4,8 @@
 
 Each package makes a set of N pairs (100,000), the union of two such sets, and says whether numbers are members; then the same of
 N / 10 pairs of times; sets grow by N ranges one by one; numpy and pandas do as much over arrays; calls touch a few of 10 N ranges; a
-map has N; and arrays have N questions, 10 N floats and small numbers. Their answers are compared. A package that is missing is named
-and left out. Times are the least of some rounds.
+map has N; arrays have N questions, 10 N floats and small numbers; and of N ranges it is counted how many have each number. Their
+answers are compared. A package that is missing is named and left out. Times are the least of some rounds.
 """
 
 import argparse

@@ -313,6 +313,14 @@ class Rows(unittest.TestCase):
             self.assertEqual(len(few._now[1].keys), 2)
             self.assertLess(len(pickle.dumps(few)), 200)
 
+    def test_a_loop_over_a_map_goes_over_what_it_was(self):
+        made = RangeMap([(("a", "b"), 1), (("k", "m"), 2)])
+        seen = []
+        for keys, value in made.items():
+            made.put("c", "d", 3)
+            seen.append((keys, value))
+        self.assertEqual((seen, len(made)), ([(("a", "b"), 1), (("k", "m"), 2)], 3))
+
     def test_pickles_that_are_damaged(self):
         for kind, keys in (("ordered", ["a", "b"]), ("ordered", ("b", "a")), ("ordered", ("a", "a")), ("ordered", ("a", 5))):
             self.assertRaises(ValueError, _restored_of, RangeSet, (kind, keys))

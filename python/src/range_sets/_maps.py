@@ -59,7 +59,7 @@ class RangeMap(MapQuestions[K, V]):
     checkers of types it is a `RangeMap[K, V]`. They refuse slices of dates: `put` and `remove` do the same.
 
     A loop over a map may give the ranges that it reads other values. One that leaves it more or fewer ranges raises a RuntimeError, as
-    over a dict: go over `list(m.items())` then.
+    over a dict: go over `list(m.items())` then. Over a map whose keys sort it goes on over what the map was.
 
     Where a change raises an error, as an `==` of values may, the map is as it was. Threads that share a map lock for themselves.
     """
