@@ -12,6 +12,7 @@ from typing import Any, Callable, Iterable, Mapping, Self, TypeVar, Union
 
 from . import _core
 from ._core import Steps
+from ._depths import ends_of_sets
 from ._kept import MANY, SHOWN
 from ._kind import NO_KIND, SIGNED, Array, Kind, KindLike
 from ._kinds import are_alike, are_of_one, given_kind, kind_of_pickle
@@ -19,7 +20,7 @@ from ._map_questions import NOTHING, Keys, MapQuestions, numbered_with
 from ._numbers import in_this_order, least, packed
 from ._ordered import ORDERED
 from ._ranges import AnyRangeSet
-from ._sources import Source, ends_of_sets, items_of
+from ._sources import Source, items_of
 
 K = TypeVar("K")
 V = TypeVar("V")

@@ -446,33 +446,6 @@ def sets_of(source: Any, kind: Kind | None) -> list[Now]:
     return [gather(it, kind) for it in items_of(source, "sets, as in a list", "zip(t['start'], t['end']) has the range of each row")]
 
 
-def ends_of_sets(source: Any, kind: Kind | None) -> tuple[Any, Any, Kind]:
-    """The starts and ends of the ranges of sets, in turn, the starts of those without an end, and the kind. Each row of a table is a set."""
-    form, wanted = _form_of(source), "sets, as in a list"
-    if form is Form.COLUMNS:
-        if getattr(source, "shape", ())[1:] not in ((), (2,)):
-            items_of(source, wanted, "t[['start', 'end']] has the range of each row")
-        source, kind = _table_of(source, kind)
-        form = _form_of(source)
-    if form is Form.TABLE and _dimensions(source) == 2:
-        numbers, found = _numbers_of_table(source, kind)
-        return numbers, array(typecode_of(found.unsigned)), found
-    if form is Form.OBJECTS:
-        source = [*map(tuple, source.tolist())] if _dimensions(source) == 2 else source.tolist()
-    items = (*items_of(source, wanted),)
-    plain = None
-    if (kind is None or kind.is_whole) and items and isinstance(items[0], tuple):
-        # No loop in Python looks at these.
-        plain = _core.numbers_of_pairs(items, kind is UNSIGNED)
-    lists, found = ([], kind or SIGNED) if plain is not None else of_one_kind([gather(it, kind) for it in items], kind)
-    ends, open_ranges = array(typecode_of(found.unsigned), plain or b""), array(typecode_of(found.unsigned))
-    for boundaries in lists:
-        last = len(boundaries) // 2 * 2
-        ends.frombytes(memoryview(boundaries)[:last].cast("B"))  # type: ignore[arg-type]
-        open_ranges.extend(boundaries[last:])
-    return ends, open_ranges, found
-
-
 def _source_error(source: Any, wanted: str) -> TypeError:
     hint = "; from_values makes a set of elements" if "set" in wanted and kind_of(source) not in (None, ORDERED) else ""
     return TypeError(f"expected {wanted}, not {reprlib.repr(source)}{hint}")
