@@ -33,6 +33,7 @@ INSTEAD = rows("""
     // Calls for their clauses alone: laws, functions that do nothing, and reads.
     *: LAW::<NAME, Comparisons>(); → | PATH.known(); → | self.known_in_range(); → | R::left_items_stay(); →
     *: let _inline = PATH.capacity(); → | let _len = PATH.len(); → | let _lengths = (state.a_len(), state.b_len()); →
+    *: let _length = self.len(); → | let _length = (*self).len(); →
     *: let _number = *self; → | let _character = *self; →
     // What Rust 1.63 writes otherwise: `let .. else`, an attribute, and a formatter, which hides where it writes.
     *: let PATH(NAME) = VALUE else { BLOCK; }; → let NAME = match VALUE { PATH(NAME) => NAME, _ => BLOCK, };
@@ -80,7 +81,7 @@ LEFT_OUT = rows("""
     // Whether a compiler selects without a branch, which depends on rustc's version.
     range_merge/fast/branchless: const SELECTS
     // What nothing in Rust calls.
-    range_chunks/space/fitting: impl<T: Unsigned> ChunkedSpace<T>
+    range_chunks/space/fitting: impl<T: Unsigned> ChunkedSpace<T> ; range_chunks/set/ranges: fn items
     range_collections/range_set/by_view: fn contains_counted | fn contains_range_counted | fn range_at_counted | fn merge_test
     range_collections/range_set/by_view: fn split_counted | fn gaps_counted | fn ranges_within_counted | fn merge_into
     range_collections/range_set/operations, range_collections/view/operations: fn merge_new
@@ -99,7 +100,8 @@ IDLE = re.compile(r"(?:\{(?: let Self \{ [\w :,]+ \} = self ;)? \}|;)$")
 # Items that the source lacks: clones, of which COPIED says that they go field by field.
 ADDED = rows("""
     range_chunks/iter, range_collections/iter, range_map/iter, range_list/items, range_map/gaps: Clone for
-    range_chunks/within, range_collections/members, range_merge/runs: Clone for ; range_merge/runs: Copy for
+    range_chunks/within, range_collections/members, range_collections/questions/parts, range_merge/runs: Clone for
+    range_merge/runs: Copy for
 """)
 FIELD = r"(\w+) : Clone :: clone \( & self \. \1 \)"
 COPIED = re.compile(rf"# \[ inline [^\]]*\] fn clone \( & self \) -> Self \{{ (?:\* self|\w+ \{{(?: {FIELD}(?: ,)?)+ \}}) \}}")

@@ -35,7 +35,7 @@ PLANTED = [
     ("range_merge/merging", "Some(n) => Some(n - 1),", "Some(n) => { Some(n) },", "fn one_less"),
     # An argument, a receiver, a call.
     ("range_merge/merging", "gallop(&LeftOf(state), state.b_at(0), cmp)", "gallop(&LeftOf(state), state.a_at(0), cmp)", "fn left_run"),
-    ("range_collections/range_set/insertion", "&range.start, &range.end, &mut", "&range.end, &range.start, &mut", "fn insert_changed"),
+    ("range_collections/range_set/insertion", "&range.start, &range.end)", "&range.end, &range.start)", "fn remove_changed"),
     ("range_merge/runs", "self.0.b_at(i)", "self.0.a_at(i)", "for RightOf < '_ , S > / fn at"),
     ("range_collections/range_set/insertion", "set_range(&mut self.list, range, true, count)", "set_range(&mut self.list, range, false, count)", "fn insert_counted"),
     # A signature: a type, a bound, an attribute, who may call it.
