@@ -3,7 +3,7 @@ ghost use Rattle.std.specs.Prelude.{◌≡◌, ◌<◌, ◌≤◌, ◌+◌, ℕ,
 ghost use Rattle.std.specs.Option.{option_map};
 ghost use Rattle.std.specs.Ordering.{is_le};
 ghost use Rattle.range_merge.specs.Boundaries.{member};
-ghost use Rattle.range_collections.specs.Fits.{Fits, IsFirstRow, IsMultiple, IsOneOf, IsRow};
+ghost use Rattle.range_collections.specs.Fits.{Fits, IsFirstFit, IsFirstRow, IsMultiple, IsOneOf, IsRow};
 
 use crate::set::ChunkedRangeSet;
 use crate::within::parts_within;
@@ -53,6 +53,10 @@ impl<T: Countable + Copy> ChunkedRangeSet<T> {
             (T.place within.start) (T.place within.end) count n → T.place at ≤ n) }
         ensures none { IfNone result ((n : ℕ) → ¬ (IsRow T.cmp T.value false self.now
             (T.place within.start) (T.place within.end) count n)) }
+
+        // It starts the first gap that is long enough.
+        ensures first { 0 < count → IsFirstFit T.cmp T.place self.now
+            within.start within.end count result }
         ensures nothing { count ≡ 0 →
             result ≡ cond (is_le (T.cmp within.start within.end)) (Some within.start) None }
     {
@@ -95,6 +99,9 @@ impl<T: Countable + Copy> ChunkedRangeSet<T> {
         ensures below { IfSome result (λ row. row.place < T.count) }
         ensures none { IfNone result ((n : ℕ) → IsOneOf multiples n → ¬ (IsRow T.cmp T.value inside
             self.now (T.place start.now) (T.place end.now) count n)) }
+        ensures first { inside ≡ false → 0 < count → multiples.of ≡ 1 →
+            IsFirstFit T.cmp T.place self.now
+            start.now end.now count (option_map (λ row. row.start) result) }
         ensures nothing { count ≡ 0 → multiples.of ≡ 1 → option_map (λ row. row.start) result ≡
             cond (is_le (T.cmp start.now end.now)) (Some start.now) None }
     {

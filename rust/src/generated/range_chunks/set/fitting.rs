@@ -53,6 +53,9 @@ impl<T: Countable + Copy> ChunkedRangeSet<T> {
     ///     within.start) (T.place within.end) count n → T.place at ≤ n)
     /// ensures none: IfNone result ((n : ℕ) → ¬ (IsRow T.cmp T.value false self.now (T.place
     ///     within.start) (T.place within.end) count n))
+    /// // It starts the first gap that is long enough.
+    /// ensures first: 0 < count → IsFirstFit T.cmp T.place self.now within.start within.end count
+    ///     result
     /// ensures nothing: count ≡ 0 → result ≡ cond (is_le (T.cmp within.start within.end)) (Some
     ///     within.start) None
     /// ```
