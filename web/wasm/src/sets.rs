@@ -25,10 +25,12 @@ pub extern "C" fn parse(place: usize) -> u32 {
                     Expected::Number => 1,
                     Expected::Dot => 2,
                     Expected::Comma => 3,
+                    other => panic!("the page has no number for {other}"),
                 }
             }
             Err(ParseError::OutOfRange) => 4,
             Err(ParseError::OutOfMemory) => 6,
+            Err(other) => panic!("{other}"),
         }
     })
 }

@@ -35,7 +35,7 @@ fn status_of(page: &mut Page, answer: Result<(), TrackError>) -> u32 {
             page.needed = boundaries;
             1
         }
-        Err(TrackError::OutOfMemory) => panic!("no memory for one more range"),
+        Err(other) => panic!("{other}"),
     }
 }
 
