@@ -24,13 +24,13 @@ pub extern "C" fn parse(place: usize) -> u32 {
                 match expected {
                     Expected::Number => 1,
                     Expected::Dot => 2,
-                    Expected::Comma => 3,
-                    other => panic!("the page has no number for {other}"),
+                    // `Comma`, which alone is left; the type may grow.
+                    _ => 3,
                 }
             }
             Err(ParseError::OutOfRange) => 4,
-            Err(ParseError::OutOfMemory) => 6,
-            Err(other) => panic!("{other}"),
+            // `OutOfMemory`, which alone is left.
+            Err(_) => 6,
         }
     })
 }

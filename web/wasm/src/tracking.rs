@@ -35,7 +35,8 @@ fn status_of(page: &mut Page, answer: Result<(), TrackError>) -> u32 {
             page.needed = boundaries;
             1
         }
-        Err(other) => panic!("{other}"),
+        // `OutOfMemory`, which alone is left.
+        Err(_) => panic!("no memory for one more range"),
     }
 }
 
