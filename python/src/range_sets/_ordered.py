@@ -176,7 +176,7 @@ def is_same(mine: Boundaries, kind: Any, others: Boundaries, other: Any) -> bool
 
 
 def first_gap(ends: list[IPv6Address], count: int) -> IPv6Address | None:
-    """The start of the first of some ranges that has so many addresses."""
+    """The start of the first range that has this many addresses."""
     found = (start for start, end in zip_longest(ends[::2], ends[1::2]) if (_MOST + 1 if end is None else int(end)) - int(start) >= count)
     return next(found, None)
 
