@@ -1,12 +1,12 @@
 -- One step of a read: the item that it puts out, or none (IsAppended-one), and how far it came.
 --     Reads, Reads-four, Reads-looked    how far a read came: some steps after a look, four, and at a look
 --     Reads-cost, Reads-made             what it cost
-use Rattle.std.proofs.Common.{◌≡◌, refl, ap, sym, ◌∙◌, ℕ, zero, suc, ◌+◌, ◌-◌, ◌*◌, ◌^◌, ◌<◌, ◌≤◌, Bool, true, false, not, ◌||◌, cond, List, [], ◌∷◌, ◌++◌, length, map, take, drop, get_or, slice_get, append_assoc, Option, Some, None, ◌⊎◌, inl, inr, eq-zero-or-pos, arith}
+use Rattle.std.proofs.Common.{◌≡◌, refl, ap, sym, ◌∙◌, ℕ, zero, suc, ◌+◌, ◌-◌, ◌*◌, ◌^◌, ◌<◌, ◌≤◌, Bool, true, false, not, ◌&&◌, cond, List, [], ◌∷◌, ◌++◌, length, map, take, drop, get_or, slice_get, append_assoc, Option, Some, None, ◌⊎◌, inl, inr, eq-zero-or-pos, arith}
 use Rattle.std.proofs.Math.Bool.{beq}
 use mir.Val.{bool_byte}
 use Rattle.std.proofs.Math.ListN.{set}
 use Rattle.std.proofs.Math.Seq.{drop-cons, drop-append-add, take-append-add}
-use Rattle.std.proofs.lemmas.List.{append-nil, drop-append-le, drop-drop, drop-set-lt, length-take-le, set-get_or, take-append-drop, take-take, take_more_set}
+use Rattle.std.proofs.lemmas.List.{append-nil, drop-append-le, drop-drop, drop-set, drop-set-lt, length-set, length-take-le, take-append-drop, take-take, take_more_set}
 use Rattle.std.proofs.lemmas.Option.{get_or_from_slice_get, slice_get_within}
 use Rattle.std.proofs.lemmas.Slice.{take-put_mid}
 use borrow.Rule.Slice.PartMut.{put_mid}
@@ -21,7 +21,7 @@ use Rattle.range_merge.specs.Copies.{AreCopies, IsAppended, items_if}
 use Rattle.range_merge.specs.Owners.{Owner, left_only, right_only, shared}
 use Rattle.range_merge.specs.Stages.{Progress}
 use Rattle.range_merge.specs.Runs.{joined, runs, runs_of, weight, weight_of}
-use Rattle.range_merge.specs.ShortRuns.{is_answer, table_from, lefts_of, rights_of, IsLong, IsRead}
+use Rattle.range_merge.specs.ShortRuns.{lefts_of, rights_of, IsLong, IsRead}
 use Rattle.range_merge.specs.OneRun.{FirstsStand, one_of_run, takes, taken_of_run, left_after, right_after, left_on_after, right_on_after}
 use Rattle.range_merge.specs.declared.runs.Run.{Run}
 use Rattle.range_merge.specs.declared.runs.Run.TheVariants.{Left, Right, Both}
@@ -31,7 +31,7 @@ use Rattle.range_merge.proofs.FirstRuns.{first_both}
 use Rattle.range_merge.proofs.MergeLoop.{Progress-none, Progress-run, Progress-then}
 use Rattle.range_merge.proofs.Orders.{Less-from_greater}
 use Rattle.range_merge.proofs.Pairs.{AllPairs-drop}
-use Rattle.range_merge.proofs.Parity.{differ-comm, differ-not_right, is_odd-add, is_odd-suc}
+use Rattle.range_merge.proofs.Parity.{differ-comm, differ-self, is_odd-add, is_odd-suc}
 use Rattle.range_merge.proofs.RunsFound as found
 use Rattle.range_merge.proofs.ShortRuns.{before, grown, read_of, goes_on, before-weighs, IsOwed, grown-pays, ended-pays, IsSince, IsSince-more, IsSince-none, ended-at}
 use Rattle.range_merge.proofs.Digits as numbers
@@ -46,6 +46,10 @@ byte-ge Less = refl
 byte-ge Equal = refl
 byte-ge Greater = refl
 
+pub byte-few : (b : Bool) → bool_byte b ≤ 1
+byte-few true = omega arith
+byte-few false = omega arith
+
 -- a step puts out no more than it reads
 pub at-most_read : (taken : Bool) (how : Ordering) (i j k : ℕ) {i' j' : ℕ} → i' ≡ i + lefts_of how → j' ≡ j + rights_of how → (k + bool_byte taken) + (i + j) ≤ k + (i' + j')
 at-most_read true Less i j k left right = omega (arith, left, right)
@@ -56,6 +60,36 @@ at-most_read false how i j k left right = omega (arith, left, right)
 -- the item that was picked, as a list
 pub picked : {X : Type 0} (b c : Bool) (x y : X) {r : X} → r ≡ cond b x y → b ≡ c → cond c x y ∷ [] ≡ r ∷ []
 picked b c x y e same = ap (λ z. z ∷ []) (sym (rw same at e))
+
+-- whether the answer differs from the one where both sides are off
+abbrev is_answer : Table → Bool → Bool → Bool
+is_answer f ac bc = differ (f false false) (f ac bc)
+
+differ-through : (x y z : Bool) → not (beq (differ x y) (differ z x)) ≡ differ z y
+differ-through true true true = refl
+differ-through true true false = refl
+differ-through true false true = refl
+differ-through true false false = refl
+differ-through false true true = refl
+differ-through false true false = refl
+differ-through false false true = refl
+differ-through false false false = refl
+
+-- it does from where the right side changes, and then the left one
+pub answer-changes : (f : Table) (ac bc left right : Bool) → left ≡ differ (f false bc) (f true bc) → right ≡ differ (f false false) (f false true)
+    → not (beq (ac && left) (bc && right)) ≡ is_answer f ac bc
+answer-changes f true true left right left_is right_is = rw (left_is, right_is) (differ-through (f false true) (f true true) (f false false))
+answer-changes f true false left right left_is right_is = rw left_is (alone (differ (f false false) (f true false)))
+  where
+    alone : (x : Bool) → not (beq x false) ≡ x
+    alone true = refl
+    alone false = refl
+answer-changes f false true left right left_is right_is = rw right_is (alone (differ (f false false) (f false true)))
+  where
+    alone : (x : Bool) → not (beq false x) ≡ x
+    alone true = refl
+    alone false = refl
+answer-changes f false false left right left_is right_is = sym (differ-self (f false false))
 
 differ-answers : (z x y : Bool) → not (beq (differ z y) (differ z x)) ≡ differ x y
 differ-answers true true true = refl
@@ -97,13 +131,12 @@ odd-rights Equal j j' e = odd-lefts Equal j j' e
 odd-rights Greater j j' e = odd-lefts Less j j' e
 
 -- the item of a step is taken, if the answer changed
-pub is_taken : (f : Table) (how : Ordering) (i j k i' j' : ℕ) (on : Bool) → i' ≡ i + lefts_of how → j' ≡ j + rights_of how
-    → on ≡ is_answer f (is_odd i') (is_odd j') → is_odd k ≡ is_answer f (is_odd i) (is_odd j) → not (beq on (is_odd k)) ≡ takes f (is_odd i) (is_odd j) (one_of_run how)
-is_taken f how i j k i' j' on left right on_is was =
+pub is_taken : (f : Table) (how : Ordering) (i j i' j' : ℕ) (on was : Bool) → i' ≡ i + lefts_of how → j' ≡ j + rights_of how
+    → on ≡ is_answer f (is_odd i') (is_odd j') → was ≡ is_answer f (is_odd i) (is_odd j) → not (beq on was) ≡ takes f (is_odd i) (is_odd j) (one_of_run how)
+is_taken f how i j i' j' on was left right on_is was_is =
     let after : on ≡ is_answer f (left_on_after (one_of_run how) (is_odd i)) (right_on_after (one_of_run how) (is_odd j)) =
     on_is ∙ ap (λ ac. is_answer f ac (is_odd j')) (odd-lefts how i i' left) ∙ ap (λ bc. is_answer f (left_on_after (one_of_run how) (is_odd i)) bc) (odd-rights how j j' right) in
-    ap (λ x. not (beq x (is_odd k))) after ∙ ap (λ x. not (beq (is_answer f (left_on_after (one_of_run how) (is_odd i)) (right_on_after (one_of_run how) (is_odd j))) x)) was
-    ∙ takes-answers f how (is_odd i) (is_odd j)
+    rw (after, was_is) (takes-answers f how (is_odd i) (is_odd j))
 
 -- the lists after one step
 drop-lefts : {K : Type 0} (how : Ordering) (i i' : ℕ) (l : List K) → i' ≡ i + lefts_of how → drop i' l ≡ left_after (one_of_run how) (drop i l)
@@ -197,31 +230,24 @@ module _ {K : Type 0} where
   }
 
   -- what is written behind the items that were put out
-  pub IsAppended-set : (alike : K → K → Type 0) (k : ℕ) (x : K) (items : List K) → k < length items → alike x x
-      → IsAppended alike (x ∷ []) (take k items) (take (k + 1) (set items k x))
-  IsAppended-set alike k x items within same = record {
+  pub IsAppended-set : (alike : K → K → Type 0) (k : ℕ) (first x : K) (items : List K) → k < length items → alike first x
+      → IsAppended alike (first ∷ []) (take k items) (take (k + 1) (set items k x))
+  IsAppended-set alike k first x items within same = record {
     copies = x ∷ [];
     alike_to = (same, tt);
     appended = take_more_set items k x within;
   }
 
-  -- what is written: the item, if it is taken, or else what stood there
-  pub written : (taken keeps : Bool) (first was x : K) → x ≡ cond (taken || not keeps) first was → taken ≡ true → x ≡ first
-  written true keeps first was x e is = e
-  written false keeps first was x e is = absurd cc
-
-  pub IsAppended-written : (alike : K → K → Type 0) (first x : K) (old new : List K) → x ≡ first → IsAppended alike (x ∷ []) old new → IsAppended alike (first ∷ []) old new
-  IsAppended-written alike first x old new is put = rw is at put
-
-  -- behind what was put out nothing changed
-  pub behind-set : (taken keeps : Bool) (k k' : ℕ) (items : List K) (first d x : K) → x ≡ cond (taken || not keeps) first (get_or items k d)
-      → k' ≡ k + bool_byte taken → keeps ≡ true → drop k' (set items k x) ≡ drop k' items
-  behind-set true keeps k k' items first d x e more keep = drop-set-lt k' items k x (omega (arith, more))
-  behind-set false true k k' items first d x e more keep = ap (λ y. drop k' (set items k y)) e ∙ ap (drop k') (set-get_or items k d)
-  behind-set false false k k' items first d x e more keep = absurd cc
+  -- behind what was put out nothing changed, where what stood there is written back
+  pub behind-set : (k k' : ℕ) (items : List K) (x d was : K) → k ≤ k' → k' < length items → was ≡ get_or items k' d → drop k' (set (set items k x) k' was) ≡ drop k' items
+  behind-set k k' items x d was more within is =
+      let long : k' < length (set items k x) = omega (arith, length-set items k x, within) in
+      let next : k' + 1 ≡ suc k' = omega arith in
+      drop-set (set items k x) k' was long ∙ ap (λ xs. was ∷ xs) (drop-set-lt (k' + 1) items k x (omega (arith, more)))
+      ∙ ap (λ y. y ∷ drop (k' + 1) items) is ∙ ap (λ n. get_or items k' d ∷ drop n items) next ∙ sym (drop-cons items k' d within)
 
   -- it is put out, if it is taken
-  IsAppended-if : (alike : K → K → Type 0) (taken : Bool) (k : ℕ) (items old new : List K) → take k new ≡ take k old
+  pub IsAppended-if : (alike : K → K → Type 0) (taken : Bool) (k : ℕ) (items old new : List K) → take k new ≡ take k old
       → (taken ≡ true → IsAppended alike items (take k old) (take (k + 1) new))
       → (k' : ℕ) → k' ≡ k + bool_byte taken → IsAppended alike (items_if taken items) (take k old) (take k' new)
   IsAppended-if alike true k items old new front put k' e = rw e (put refl)
@@ -233,12 +259,6 @@ module _ {K : Type 0} where
     where
       same-is : (k k' : ℕ) → k' ≡ k + 0 → k' ≡ k
       same-is k k' e = omega (arith, e)
-
-  pub IsAppended-of : (alike : K → K → Type 0) (taken wanted : Bool) (k k' : ℕ) (first : K) (items old new : List K) → taken ≡ wanted → items ≡ first ∷ []
-      → take k new ≡ take k old → (taken ≡ true → IsAppended alike (first ∷ []) (take k old) (take (k + 1) new)) → k' ≡ k + bool_byte taken
-      → IsAppended alike (items_if wanted items) (take k old) (take k' new)
-  IsAppended-of alike taken wanted k k' first items old new same items_are front put e =
-      rw items_are (IsAppended-if alike wanted k (first ∷ []) old new front (λ t. put (same ∙ t)) k' (e ∙ ap (λ t. k + bool_byte t) same))
 
   joined-left : (x : K) (rs : List Run) → joined (left_only x) rs ≡ before (Some (Left 1)) rs
   joined-left x [] = refl
@@ -295,22 +315,6 @@ module _ {K : Type 0} {order : K → K → Ordering} (o : IsTotalOrder order) (a
       let copied : AreCopies alike ts put.copies = AreCopies-from_items alike ts put.copies (rw (taken-one how (takes f ac bc (one_of_run how)) a b) put.alike_to) in
       Progress-run (one_of_run how) (one_stands o a b a_ascends b_ascends (one_of_run how) how refl firsts) refl
       (λ earlier holds. rw put.appended (AllZip-append (λ t x. alike (taken_item t) x) earlier old ts put.copies holds copied))
-
--- a step from where the sides stand as x and y
-takes-from : (f : Table) (x y u v : Bool) (run : Run) → takes (table_from f x y) u v run ≡ takes f (differ x u) (differ y v) run
-takes-from f true y u v (Left n) = differ-comm (f true (differ y v)) (f false (differ y v))
-takes-from f false y u v (Left n) = refl
-takes-from f x true u v (Right n) = differ-comm (f (differ x u) true) (f (differ x u) false)
-takes-from f x false u v (Right n) = refl
-takes-from f x y u v Both =
-    ap (λ ac. differ (f (differ x u) (differ y v)) (f ac (differ y (not v)))) (differ-not_right x u)
-    ∙ ap (λ bc. differ (f (differ x u) (differ y v)) (f (not (differ x u)) bc)) (differ-not_right y v)
-
-pub takes-at : (f : Table) (i j u v : ℕ) (run : Run) → takes (table_from f (is_odd i) (is_odd j)) (is_odd u) (is_odd v) run ≡ takes f (is_odd (i + u)) (is_odd (j + v)) run
-takes-at f i j u v run =
-    takes-from f (is_odd i) (is_odd j) (is_odd u) (is_odd v) run
-    ∙ ap (λ ac. takes f ac (differ (is_odd j) (is_odd v)) run) (sym (is_odd-add i u))
-    ∙ ap (λ bc. takes f (is_odd (i + u)) bc run) (sym (is_odd-add j v))
 
 -- what is left of an ascending list, of which some is left
 ascends-from : {K : Type 0} (order : K → K → Ordering) (n m : ℕ) (xs : List K) → n ≤ m → IsAscending order (drop n xs) → IsAscending order (drop m xs)

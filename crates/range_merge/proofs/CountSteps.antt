@@ -1,41 +1,28 @@
--- One step of a read by place: what it counts, and how far the read came.
---     Counts                      how far a read came, some steps after a look
---     Counts-start                nothing was read yet
---     Counts-four, Counts-looked  after four steps, and at a look
---     Progress-counted            what was counted, with what was counted before
-use Rattle.std.proofs.Common.{◌≡◌, refl, ap, sym, ◌∙◌, ℕ, zero, suc, ◌+◌, ◌-◌, ◌*◌, ◌^◌, ◌<◌, ◌≤◌, Bool, true, false, cond, List, [], ◌∷◌, ◌++◌, length, take, drop, Some, arith}
+-- Steps of a read that counts: how many items they put out, and how far the read came.
+--     Counts-step, Counts-then      one step, and steps after others
+--     Counts-looked, Counts-window  four steps and a look, and steps in windows of two lists
+--     Reached, CameTo               how far a read came at a look, and after some
+--     Progress-counted              what was counted, with what was counted before
+use Rattle.std.proofs.Common.{◌≡◌, refl, ap, sym, ℕ, ◌+◌, ◌<◌, Bool, true, false, cond, List, [], ◌∷◌, ◌++◌, length, take, drop, Some, inl, inr, arith}
 use mir.Val.{bool_byte}
 use Rattle.std.specs.List.{AllZip}
-use Rattle.std.proofs.lemmas.List.{drop-drop, length-append, length-map, length-take-le}
+use Rattle.std.proofs.lemmas.List.{length-append, length-drop, length-map, length-take-le}
 use Rattle.std.proofs.lemmas.List.Elements.{length_all_zip}
-use Rattle.std.specs.Cmp.{IsTotalOrder}
 use Rattle.std.specs.Ordering.{is_le}
 use Rattle.std.specs.declared.cmp.Ordering.{Ordering}
 use Rattle.std.specs.declared.cmp.Ordering.TheVariants.{Less, Equal, Greater}
+use Rattle.std.specs.Cmp.{IsTotalOrder}
 use Rattle.range_merge.specs.Boundaries.{IsAscending, is_odd}
-use Rattle.range_merge.specs.Counted.{IsCounted}
+use Rattle.range_merge.specs.Counted.{Counts, IsCounted}
 use Rattle.range_merge.specs.Changes.{taken_item, taken_items}
-use Rattle.range_merge.specs.Connective.{Table, differ}
+use Rattle.range_merge.specs.Connective.{Table}
 use Rattle.range_merge.specs.Copies.{IsAppended, items_if}
 use Rattle.range_merge.specs.Stages.{Progress}
-use Rattle.range_merge.specs.Runs.{weight}
-use Rattle.range_merge.specs.ShortRuns.{table_from, IsLong, IsCountStep, AreFourCounted}
+use Rattle.range_merge.specs.ShortRuns.{lefts_of, rights_of, IsLong, Place, place, Then, IsStep, AreFour, IsLooked, AreSixteen}
 use Rattle.range_merge.specs.OneRun.{FirstsStand, one_of_run, takes}
-use Rattle.range_merge.proofs.CopySteps.{Reads, Reads-start, Reads-more, Reads-made, Reads-cost, Reads-looked, takes-at}
-use Rattle.range_merge.proofs.EvenSteps.{FirstsStand-take, drop-of_take}
-use Rattle.range_merge.proofs.Relative.{Progress-from}
-
--- one if it is taken
-abbrev pub one_if : Bool → ℕ
-one_if t = cond t 1 0
-
-byte-one : (t : Bool) → bool_byte t ≡ one_if t
-byte-one true = refl
-byte-one false = refl
-
--- a step counts an item, if it is taken
-pub counted-if : (t wanted : Bool) (k : ℕ) → t ≡ wanted → k + bool_byte t ≡ k + one_if wanted
-counted-if t wanted k same = ap (λ n. k + n) (byte-one t ∙ ap one_if same)
+use Rattle.range_merge.proofs.CopySteps.{Reads, Reads-start}
+use Rattle.range_merge.proofs.EvenSteps.{AreSixteen-window, Came, Came-sixteen}
+use Rattle.range_merge.proofs.Works.{Progress-put}
 
 module _ {K : Type 0} where
   alike-same : (xs : List K) → AllZip (λ x y. x ≡ y) xs xs
@@ -46,7 +33,7 @@ module _ {K : Type 0} where
   themselves : (items old : List K) → IsAppended (λ x y. x ≡ y) items old (old ++ items)
   themselves items old = record { copies = items; alike_to = alike-same items; appended = refl }
 
-  length-items_if : (t : Bool) (items : List K) → length items ≡ 1 → length (items_if t items) ≡ one_if t
+  length-items_if : (t : Bool) (items : List K) → length items ≡ 1 → length (items_if t items) ≡ bool_byte t
   length-items_if true items one = one
   length-items_if false items one = refl
 
@@ -56,93 +43,135 @@ module _ {K : Type 0} where
   length-one Equal l r lefts rights = length-take-le 1 l lefts
   length-one Greater l r lefts rights = length-take-le 1 r rights
 
-  rest-window : (n i u : ℕ) (xs : List K) → drop u (take n (drop i xs)) ≡ take (n - u) (drop (i + u) xs)
-  rest-window n i u xs = drop-of_take u n (drop i xs) ∙ ap (take (n - u)) (drop-drop u i xs)
-
-  -- the first items of what is behind in windows that begin at i and j, and of the whole
-  FirstsStand-window : (order : K → K → Ordering) (n n' i j u v : ℕ) (l r : List K) (how : Ordering)
-      → FirstsStand order (drop u (take n (drop i l))) (drop v (take n' (drop j r))) (Some how) → FirstsStand order (drop (i + u) l) (drop (j + v) r) (Some how)
-  FirstsStand-window order n n' i j u v l r how h =
-      FirstsStand-take order (n - u) (n' - v) (drop (i + u) l) (drop (j + v) r) how (rw (← rest-window n i u l, ← rest-window n' j v r) h)
+  pub Counts-then : {R S : Place K → Place K → Type 0} {k k1 k' : ℕ} {from mid to : List K → Place K} → Counts R k k1 from mid → Counts S k1 k' mid to → Counts (Then R S) k k' from to
+  Counts-then {mid} r s = λ out len.
+      let one = r out len in
+      let two = s one.out one.len in
+      record { out = two.out; len = two.len; steps = record { mid = mid one.out; first = one.steps; rest = two.steps } }
 
 module _ {K : Type 0} (order : K → K → Ordering) (f : Table) (a b : List K) where
-  -- how far a read came, m steps after a look at i1 and j1, where k items are taken
-  pub record Counts (count0 m i1 j1 i j k count : ℕ) (next : Ordering) : Type 0 where
+  -- a step counts an item, if it is taken
+  pub Counts-step : (i j : ℕ) {k : ℕ} {how : Ordering} {long : Bool} {made i' j' k' : ℕ} {next : Ordering} {long' : Bool} {made' : ℕ} (taken : Bool)
+      → i < length a → j < length b → i' ≡ i + lefts_of how → j' ≡ j + rights_of how → taken ≡ takes f (is_odd i) (is_odd j) (one_of_run how) → k' ≡ k + bool_byte taken
+      → FirstsStand order (drop i' a) (drop j' b) (Some next) → made' ≡ made + 1
+      → Counts (IsStep (λ x y. x ≡ y) order f a b) k k' (λ out. place i j out how long made) (λ out. place i' j' out next long' made')
+  Counts-step i j {how} taken left_some right_some lefts rights same k_is stands counted = λ out len.
+      let wanted : Bool = takes f (is_odd i) (is_odd j) (one_of_run how) in
+      let firsts : List K = take 1 (cond (is_le how) (drop i a) (drop j b)) in
+      let many : length (items_if wanted firsts) ≡ bool_byte wanted =
+      length-items_if wanted firsts (length-one how (drop i a) (drop j b) (omega (arith, length-drop i a, left_some)) (omega (arith, length-drop j b, right_some))) in
+      record {
+        out = out ++ items_if wanted firsts;
+        len = omega (arith, length-append out (items_if wanted firsts), len, many, k_is, ap bool_byte same);
+        steps = record {
+          left_some = left_some;
+          right_some = right_some;
+          lefts = lefts;
+          rights = rights;
+          put = themselves (items_if wanted firsts) out;
+          stands = stands;
+          counted = counted;
+        };
+      }
+
+  IsStep-from : (long : Bool) (x y : Place K) → IsStep (λ x y. x ≡ y) order f a b x y → IsStep (λ x y. x ≡ y) order f a b (place x.i x.j x.out x.next long x.made) y
+  IsStep-from long x y s = record {
+    left_some = s.left_some;
+    right_some = s.right_some;
+    lefts = s.lefts;
+    rights = s.rights;
+    put = s.put;
+    stands = s.stands;
+    counted = s.counted;
+  }
+
+  IsStep-to : (long : Bool) (x y : Place K) → IsStep (λ x y. x ≡ y) order f a b x y → IsStep (λ x y. x ≡ y) order f a b x (place y.i y.j y.out y.next long y.made)
+  IsStep-to long x y s = record {
+    left_some = s.left_some;
+    right_some = s.right_some;
+    lefts = s.lefts;
+    rights = s.rights;
+    put = s.put;
+    stands = s.stands;
+    counted = s.counted;
+  }
+
+  -- four steps, whatever is said of a run before and after them
+  AreFour-marked : (long long' : Bool) (x y : Place K) → AreFour (λ x y. x ≡ y) order f a b x y
+      → AreFour (λ x y. x ≡ y) order f a b (place x.i x.j x.out x.next long x.made) (place y.i y.j y.out y.next long' y.made)
+  AreFour-marked long long' x y s = record {
+    mid = s.mid;
+    first = IsStep-from long x s.mid s.first;
+    rest = record {
+      mid = s.rest.mid;
+      first = s.rest.first;
+      rest = record { mid = s.rest.rest.mid; first = s.rest.rest.first; rest = IsStep-to long' s.rest.rest.mid y s.rest.rest.rest };
+    };
+  }
+
+  pub Counts-looked : {i j k : ℕ} {how : Ordering} {long : Bool} {made i' j' k' : ℕ} {next : Ordering} {long' : Bool} {made' : ℕ} → long ≡ false
+      → (long' ≡ false → IsLong next i j i' j' → ⊥)
+      → Counts (AreFour (λ x y. x ≡ y) order f a b) k k' (λ out. place i j out how false made) (λ out. place i' j' out next false made')
+      → Counts (IsLooked (λ x y. x ≡ y) order f a b) k k' (λ out. place i j out how long made) (λ out. place i' j' out next long' made')
+  Counts-looked {i} {j} {how} {long} {made} {i'} {j'} {next} {long'} {made'} short ends four = λ out len.
+      let so = four out len in
+      record {
+        out = so.out;
+        len = so.len;
+        steps = inr (short, AreFour-marked long long' (place i j out how false made) (place i' j' so.out next false made') so.steps, ends);
+      }
+
+  -- a run was long before
+  pub Counts-long : {i j k : ℕ} {how : Ordering} {long : Bool} {made : ℕ} → long ≡ true
+      → Counts (IsLooked (λ x y. x ≡ y) order f a b) k k (λ out. place i j out how long made) (λ out. place i j out how long made)
+  Counts-long is_long = λ out len. record { out = out; len = len; steps = inl (is_long, refl) }
+
+  -- steps in windows are those of the lists
+  pub Counts-window : (n n' : ℕ) {i j k : ℕ} {how : Ordering} {long : Bool} {made i' j' k' : ℕ} {next : Ordering} {long' : Bool} {made' : ℕ}
+      → Counts (AreSixteen (λ x y. x ≡ y) order f (take n a) (take n' b)) k k' (λ out. place i j out how long made) (λ out. place i' j' out next long' made')
+      → Counts (AreSixteen (λ x y. x ≡ y) order f a b) k k' (λ out. place i j out how long made) (λ out. place i' j' out next long' made')
+  Counts-window n n' {i} {j} {how} {long} {made} {i'} {j'} {next} {long'} {made'} steps = λ out len.
+      let so = steps out len in
+      record {
+        out = so.out;
+        len = so.len;
+        steps = AreSixteen-window (λ x y. x ≡ y) order f a b n n' [] (place i j out how long made) (place i' j' so.out next long' made') so.steps;
+      }
+
+module _ {K : Type 0} (order : K → K → Ordering) (f : Table) (a b : List K) (i0 j0 count0 : ℕ) where
+  -- how far a read came at a look, where k items are put out
+  pub record Reached (i j k count : ℕ) (next : Ordering) : Type 0 where
     pub out : List K
     pub len : length out ≡ k
-    pub reads : Reads (λ x y. x ≡ y) order f a b 0 0 count0 m i1 j1 i j out count next
+    pub reads : Reads (λ x y. x ≡ y) order f a b i0 j0 count0 0 i j i j out count next
 
-  -- nothing was read yet
-  pub Counts-start : (count : ℕ) (next : Ordering) → FirstsStand order a b (Some next) → Counts count 0 0 0 0 0 0 count next
-  Counts-start count next stands = record { out = []; len = refl; reads = Reads-start (λ x y. x ≡ y) order f a b 0 0 count next stands }
+  -- and after some looks, in lists that begin at p and q
+  pub record CameTo (p q k : ℕ) (to : List K → Place K) : Type 0 where
+    pub out : List K
+    pub len : length out ≡ k
+    pub came : Came (λ x y. x ≡ y) order f a b i0 j0 count0 p q (to out)
 
-  pub Counts-counted : {count0 m i1 j1 i j k count : ℕ} {next : Ordering} → Counts count0 m i1 j1 i j k count next → IsCounted order f a b i j k next
-  Counts-counted w = record { out = w.out; len = w.len; read = w.reads.read }
+  pub CameTo-sixteen : (p q : ℕ) → IsTotalOrder order → IsAscending order (drop i0 a) → IsAscending order (drop j0 b) → is_odd p ≡ false → is_odd q ≡ false
+      → {i j k made k' : ℕ} {next : Ordering} {to : List K → Place K} → Reached (p + i) (q + j) k made next
+      → Counts (AreSixteen (λ x y. x ≡ y) order f (drop p a) (drop q b)) k k' (λ out. place i j out next false made) to → CameTo p q k' to
+  CameTo-sixteen p q o a_ascends b_ascends p_even q_even {i} {j} {k} {made} {k'} {next} {to} w steps =
+      let so = steps w.out w.len in
+      record {
+        out = so.out;
+        len = so.len;
+        came = Came-sixteen (λ x y. x ≡ y) order f a b i0 j0 count0 p q o a_ascends b_ascends p_even q_even (place i j w.out next false made) (to so.out) w.reads so.steps;
+      }
 
-  pub Counts-cost : {count0 m i1 j1 i j k count : ℕ} {next : Ordering} → m ≤ 4 → Counts count0 m i1 j1 i j k count next
-      → count + 2 * weight order (drop i a) (drop j b) ≤ count0 + 2 * weight order a b + 6
-  Counts-cost few w = Reads-cost (λ x y. x ≡ y) order f a b 0 0 few w.reads
+-- nothing was counted
+pub IsCounted-none : {K : Type 0} (order : K → K → Ordering) (f : Table) (a b : List K) (i j k : ℕ) (next : Ordering) → FirstsStand order (drop i a) (drop j b) (Some next) → k ≡ 0
+    → IsCounted order f a b i j i j k next
+IsCounted-none order f a b i j k next stands none = record { out = []; len = sym none; read = (Reads-start (λ x y. x ≡ y) order f a b i j 0 next stands).read }
 
-  pub Counts-made : {count0 m i1 j1 i j k count : ℕ} {next : Ordering}
-      → m ≤ 4 → length a + length b < 2 ^ 64 → count0 < 2 ^ 127 → Counts count0 m i1 j1 i j k count next → count + 8 < 2 ^ 128 - 1
-  Counts-made few fits made w = omega (arith, Reads-made (λ x y. x ≡ y) order f a b 0 0 few (omega (arith, fits)) made w.reads)
-
-  -- a window begins at a look
-  pub Counts-window : {count0 i j k count : ℕ} {next : Ordering} → Counts count0 0 i j i j k count next
-      → Counts count0 0 (i + 0) (j + 0) (i + 0) (j + 0) (k + 0) count next
-  Counts-window {i} {j} {k} w =
-      let i_is : i + 0 ≡ i = omega arith in
-      let j_is : j + 0 ≡ j = omega arith in
-      let k_is : k + 0 ≡ k = omega arith in
-      rw (i_is, j_is, k_is) w
-
-  module _ (o : IsTotalOrder order) (a_ascends : IsAscending order a) (b_ascends : IsAscending order b) where
-    -- one step more, in windows that begin at i and j
-    pub Counts-step : (n n' i j u v k0 k : ℕ) {count0 m i1 j1 count : ℕ} {how : Ordering} {u' v' k' count' : ℕ} {next : Ordering}
-        → m ≤ 3 → Counts count0 m i1 j1 (i + u) (j + v) (k0 + k) count how
-        → IsCountStep order (table_from f (is_odd i) (is_odd j)) (take n (drop i a)) (take n' (drop j b)) u v k how u' v' k' next → count' ≡ count + 1
-        → Counts count0 (m + 1) i1 j1 (i + u') (j + v') (k0 + k') count' next
-    Counts-step n n' i j u v k0 k {how} {u'} {v'} {k'} {next} few w step counted =
-        let firsts : List K = take 1 (cond (is_le how) (drop (i + u) a) (drop (j + v) b)) in
-        let run = one_of_run how in
-        let wanted : Bool = takes f (is_odd (i + u)) (is_odd (j + v)) run in
-        let many : length (items_if wanted firsts) ≡ one_if wanted =
-        length-items_if wanted firsts (length-one how (drop (i + u) a) (drop (j + v) b) w.reads.read.stands.0 w.reads.read.stands.1) in
-        let same : one_if (takes (table_from f (is_odd i) (is_odd j)) (is_odd u) (is_odd v) run) ≡ one_if wanted = ap one_if (takes-at f i j u v run) in
-        record {
-          out = w.out ++ items_if wanted firsts;
-          len = omega (arith, length-append w.out (items_if wanted firsts), w.len, many, same, step.taken);
-          reads = Reads-more (λ x y. x ≡ y) order f a b 0 0 o a_ascends b_ascends few w.reads (omega (arith, step.lefts)) (omega (arith, step.rights)) (themselves (items_if wanted firsts) w.out)
-              (FirstsStand-window order n n' i j u' v' a b next step.stands) counted;
-        }
-
-    -- four steps from a look on, which was at u and v of the windows
-    pub Counts-four : (n n' i j u v k0 k : ℕ) {count0 count u' v' k' count' : ℕ} {how next : Ordering} (wa wb : List K) → wa ≡ take n (drop i a) → wb ≡ take n' (drop j b)
-        → Counts count0 0 (i + u) (j + v) (i + u) (j + v) (k0 + k) count how
-        → AreFourCounted order (table_from f (is_odd i) (is_odd j)) wa wb u v k how u' v' k' next → count' ≡ count + 4
-        → Counts count0 4 (i + u) (j + v) (i + u') (j + v') (k0 + k') count' next
-    Counts-four n n' i j u v k0 k {count} wa wb wa_is wb_is w steps counted =
-        let s = rw (wa_is, wb_is) at steps in
-        let one = Counts-step n n' i j u v k0 k {count' = count + 1} (omega arith) w s.one refl in
-        let two = Counts-step n n' i j s.i1 s.j1 k0 s.k1 {count' = count + 2} (omega arith) one s.two (omega arith) in
-        let three = Counts-step n n' i j s.i2 s.j2 k0 s.k2 {count' = count + 3} (omega arith) two s.three (omega arith) in
-        Counts-step n n' i j s.i3 s.j3 k0 s.k3 (omega arith) three s.four (omega (arith, counted))
-
-    -- it goes on after a look
-    pub Counts-looked : (i j u v u' v' : ℕ) {count0 k count : ℕ} {next : Ordering} → Counts count0 4 (i + u) (j + v) (i + u') (j + v') k count next
-        → (IsLong next u v u' v' → ⊥) → Counts count0 0 (i + u') (j + v') (i + u') (j + v') k count next
-    Counts-looked i j u v u' v' w ends = record {
-      out = w.out;
-      len = w.len;
-      reads = Reads-looked (λ x y. x ≡ y) order f a b 0 0 o a_ascends b_ascends i j u v u' v' w.reads ends;
-    }
-
--- what was counted from where the sides stand, with what was counted before
-pub Progress-counted : {K : Type 0} (order : K → K → Ordering) (f : Table) (ac bc : Bool) (l r : List K) (i j k was : ℕ) {next : Ordering}
-    → IsCounted order (table_from f ac bc) l r i j k next
-    → Progress order f false l r ac bc (λ ts. was ≡ length ts) (drop i l) (drop j r) (differ ac (is_odd i)) (differ bc (is_odd j)) (λ ts. was + k ≡ length ts)
-Progress-counted order f ac bc l r i j k was w =
-    Progress-from (λ x y. x ≡ y) order f ac bc l r i j (λ ts. was ≡ length ts) (λ ts. was + k ≡ length ts) w.out
+-- what was counted, with what was counted before
+pub Progress-counted : {K : Type 0} (order : K → K → Ordering) (f : Table) (a b : List K) (i0 j0 i j k was : ℕ) {next : Ordering} → IsCounted order f a b i0 j0 i j k next
+    → Progress order f false (drop i0 a) (drop j0 b) (is_odd i0) (is_odd j0) (λ ts. was ≡ length ts) (drop i a) (drop j b) (is_odd i) (is_odd j) (λ ts. was + k ≡ length ts)
+Progress-counted order f a b i0 j0 i j k was w =
+    Progress-put (λ x y. x ≡ y) order f (λ ts. was ≡ length ts) (λ ts. was + k ≡ length ts) w.out
     (λ before ts same so_far.
     omega (arith, so_far, length-append before ts, length-map ts taken_item, length_all_zip (λ x y. x ≡ y) (taken_items ts) w.out same, w.len))
     w.read.progress

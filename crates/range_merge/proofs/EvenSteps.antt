@@ -2,7 +2,7 @@
 --     takes-then, odd-then               whether a step takes what it reads
 --     IsStep-of, AreSixteen-window       a step, and up to sixteen in windows of two lists
 --     Came, Came-sixteen                 how far a read came after some looks
-use Rattle.std.proofs.Common.{◌≡◌, refl, ap, sym, ◌∙◌, ℕ, zero, suc, ◌+◌, ◌-◌, ◌*◌, ◌^◌, ◌<◌, ◌≤◌, ◌%◌, ◌==◌, Bool, true, false, not, ◌&&◌, ◌||◌, cond, List, [], ◌∷◌, ◌++◌, length, take, drop, slice_get, Some, ◌⊎◌, inl, inr, arith}
+use Rattle.std.proofs.Common.{◌≡◌, refl, ap, sym, ◌∙◌, ℕ, zero, suc, ◌+◌, ◌-◌, ◌<◌, ◌≤◌, ◌%◌, ◌==◌, Bool, true, false, not, ◌&&◌, cond, List, [], ◌∷◌, ◌++◌, length, take, drop, slice_get, Some, inl, inr, arith}
 use Rattle.std.proofs.Math.Bool.{beq}
 use Rattle.std.proofs.lemmas.Bool.{false≢true}
 use borrow.Rule.Slice.PartMut.{put_mid}
@@ -15,7 +15,7 @@ use Rattle.std.specs.declared.cmp.Ordering.TheVariants.{Less, Equal, Greater}
 use Rattle.range_merge.specs.Boundaries.{IsAscending, is_odd}
 use Rattle.range_merge.specs.Connective.{Table, differ}
 use Rattle.range_merge.specs.Copies.{IsAppended, items_if}
-use Rattle.range_merge.specs.ShortRuns.{odd_from, lefts_of, rights_of, IsLong, Place, place, Then, IsStep, AreFour, IsLooked, AreSixteen}
+use Rattle.range_merge.specs.ShortRuns.{odd_from, lefts_of, rights_of, Place, place, Then, IsStep, AreFour, IsLooked, AreSixteen}
 use Rattle.range_merge.specs.OneRun.{FirstsStand, one_of_run, takes}
 use Rattle.range_merge.proofs.Parity.{differ-comm, differ-false, is_odd-add}
 use Rattle.range_merge.proofs.CopySteps.{FirstsStand-of, IsAppended-behind, Reads, Reads-looked, Reads-more, odd-lefts, slice_get-drop, take-first, take-window}
@@ -59,10 +59,19 @@ takes-then f Greater ac bc then_ac left right then_is left_is right_is = rw (rig
     alone false = refl
 
 -- the answer for a truth, of those for both
-pub chosen : (b on off : Bool) (f : Bool → Bool) → on ≡ f true → off ≡ f false → ((b && on) || (not b && off)) ≡ f b
-chosen true true off f on_is off_is = on_is
-chosen true false off f on_is off_is = on_is
-chosen false on off f on_is off_is = off_is
+pub chosen : (b off on : Bool) (f : Bool → Bool) → off ≡ f false → on ≡ f true → not (beq off (b && not (beq off on))) ≡ f b
+chosen true true true f off_is on_is = on_is
+chosen true true false f off_is on_is = on_is
+chosen true false true f off_is on_is = on_is
+chosen true false false f off_is on_is = on_is
+chosen false true on f off_is on_is = off_is
+chosen false false on f off_is on_is = off_is
+
+-- a step reads one item or two
+pub reads-one : (how : Ordering) → 1 ≤ lefts_of how + rights_of how
+reads-one Less = omega arith
+reads-one Equal = omega arith
+reads-one Greater = omega arith
 
 -- how the left side stands after a step
 pub odd-then : (how : Ordering) (i i' : ℕ) → i' ≡ i + lefts_of how → is_odd i' ≡ differ (is_odd i) (is_le how)
@@ -234,11 +243,6 @@ module _ {K : Type 0} (alike : K → K → Type 0) (order : K → K → Ordering
       → AreSixteen alike order f a b (place u v (take k out) x.next x.long x.made) (place y.i y.j (take (k + q) (put_mid k m out room)) y.next y.long y.made)
   AreSixteen-room n n' k m q u v out room x y u_is v_is none put in_out in_room s =
       rw (u_is, v_is, take-window k m q out room in_out in_room) (rw (none, append-nil (take k out), put) at (AreSixteen-window n n' (take k out) x y s))
-
-  reads-one : (how : Ordering) → 1 ≤ lefts_of how + rights_of how
-  reads-one Less = omega arith
-  reads-one Equal = omega arith
-  reads-one Greater = omega arith
 
   -- four steps read four items
   AreFour-reads : (x y : Place K) → AreFour alike order f a b x y → x.i + x.j + 4 ≤ y.i + y.j

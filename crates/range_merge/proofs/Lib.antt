@@ -38,7 +38,6 @@ pub mod CopySteps
 pub mod EvenSteps
 pub mod Rounds
 pub mod ReadInto
-pub mod Relative
 pub mod CountSteps
 pub mod Works
 pub mod Overwritten

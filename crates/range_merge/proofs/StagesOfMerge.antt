@@ -5,7 +5,6 @@ use Rattle.std.proofs.lemmas.Bool.{false≢true}
 use Rattle.std.specs.Cmp.{IsTotalOrder}
 use Rattle.std.specs.declared.cmp.Ordering.{Ordering}
 use Rattle.range_merge.specs.Boundaries.{IsAscending}
-use Rattle.range_merge.specs.Changes.{Taken}
 use Rattle.range_merge.specs.Connective.{Table}
 use Rattle.range_merge.specs.Stages.{IsFirstRun, Members, Ran, Stage}
 use Rattle.range_merge.specs.Runs.{runs, run_len, digits, weight}

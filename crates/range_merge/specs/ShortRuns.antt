@@ -1,6 +1,4 @@
 -- Short runs of two slices that are read item by item.
---     is_answer f ac bc             the answer differs from the one where both sides are off
---     table_from f ac bc            a connective from where the sides stand so on
 --     odd_from on                   the first unread item, from the last even place of a list on
 --     lefts_of how, rights_of how   how many items of each side one step reads
 --     IsLong next i0 j0 i j         a run is long: it took all items since a look, and goes on
@@ -9,24 +7,15 @@
 --     IsRead .. i0 j0 i j out next  what was put out between these items, and how the next ones stand
 --     IsStep, AreFour               one step from a place to the next, four of them
 --     IsLooked, AreSixteen          four steps and a look, unless a run was long; up to sixteen
---     IsCountStep, AreFourCounted   one step, four of them, where what is taken is counted
 use Rattle.std.specs.Prelude.{◌≡◌, ◌⊎◌, ℕ, ◌+◌, ◌<◌, ◌≤◌, Bool, true, false, List, [], length, take, drop, Some, if◌then◌else◌}
 use Rattle.std.specs.Ordering.{is_le}
 use Rattle.std.specs.declared.cmp.Ordering.{Ordering}
 use Rattle.std.specs.declared.cmp.Ordering.TheVariants.{Less, Equal, Greater}
 use Rattle.range_merge.specs.Boundaries.{is_odd}
-use Rattle.range_merge.specs.Connective.{Table, differ}
+use Rattle.range_merge.specs.Connective.{Table}
 use Rattle.range_merge.specs.Copies.{AreCopies, IsAppended, items_if}
 use Rattle.range_merge.specs.Stages.{Progress}
 use Rattle.range_merge.specs.OneRun.{FirstsStand, one_of_run, takes}
-
--- the answer differs from the one where both sides are off
-abbrev pub is_answer : Table → Bool → Bool → Bool
-is_answer f ac bc = differ (f false false) (f ac bc)
-
--- a connective from where the sides stand so on: it is given whether each changed
-abbrev pub table_from : Table → Bool → Bool → Table
-table_from f ac bc a b = f (differ ac a) (differ bc b)
 
 -- the first unread item of a list that begins at its last even place, where its side stands so
 abbrev pub odd_from : Bool → ℕ
@@ -108,30 +97,3 @@ module _ {K : Type 0} (alike : K → K → Type 0) (order : K → K → Ordering
   -- up to sixteen steps
   abbrev pub AreSixteen : Place K → Place K → Type 0
   AreSixteen = Then IsLooked (Then IsLooked (Then IsLooked IsLooked))
-
-module _ {K : Type 0} (order : K → K → Ordering) (f : Table) (a b : List K) where
-  -- one step, from the items i and j, which counts an item if it is taken
-  pub record IsCountStep (i j k : ℕ) (how : Ordering) (i' j' k' : ℕ) (next : Ordering) : Type 0 where
-    pub lefts : i' ≡ i + lefts_of how
-    pub rights : j' ≡ j + rights_of how
-    pub taken : k' ≡ k + (if takes f (is_odd i) (is_odd j) (one_of_run how) then 1 else 0)
-    pub stands : FirstsStand order (drop i' a) (drop j' b) (Some next)
-
-  -- four steps
-  pub record AreFourCounted (i j k : ℕ) (how : Ordering) (i' j' k' : ℕ) (next : Ordering) : Type 0 where
-    pub i1 : ℕ
-    pub i2 : ℕ
-    pub i3 : ℕ
-    pub j1 : ℕ
-    pub j2 : ℕ
-    pub j3 : ℕ
-    pub k1 : ℕ
-    pub k2 : ℕ
-    pub k3 : ℕ
-    pub how1 : Ordering
-    pub how2 : Ordering
-    pub how3 : Ordering
-    pub one : IsCountStep i j k how i1 j1 k1 how1
-    pub two : IsCountStep i1 j1 k1 how1 i2 j2 k2 how2
-    pub three : IsCountStep i2 j2 k2 how2 i3 j3 k3 how3
-    pub four : IsCountStep i3 j3 k3 how3 i' j' k' next

@@ -50,13 +50,13 @@ pub trait Compare<K> {
 
 /// What a comparer of type `C` has done by another one: a stage of a merge.
 pub trait Work<K, C: Compare<K>> {
-    /// What it answers.
+    /// What it returns.
     type Answer;
 
     // It can be done.
     ghost is_ready: { Self → Type 0 };
 
-    // What was done of it: the work before and after, the number of comparisons, the answer.
+    // What was done of it: the work before and after, the number of comparisons, the result.
     ghost is_done: { Self → Self → ℕ → Self.Answer → Type 0 };
 
     /// Does it, and gives the comparer back.
@@ -66,18 +66,18 @@ pub trait Work<K, C: Compare<K>> {
         ensures { (n : ℕ) × (C.count result.cmp ≡ C.count cmp + n) × (n < 2 ^ 127)
             × is_done self.old self.new n result.answer };
 
-    /// What it answers if nothing of it is done.
+    /// What it returns if nothing of it is done.
     fn undone(&self) -> Self::Answer
         requires ready { is_ready self.now }
         ensures { is_done self.now self.now 0 result };
 }
 
-/// What some work answers, with the comparer that it was given.
+/// What some work returns, with the comparer that it was given.
 #[derive(Drop)]
 pub struct Done<C, A> {
     /// The comparer, which counted.
     pub cmp: C,
-    /// The answer.
+    /// The result.
     pub answer: A,
 }
 

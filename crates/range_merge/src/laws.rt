@@ -51,7 +51,7 @@ pub fn changes_mean_the_opposite<K, C: Compare<K>>()
         Means C.order (opposite f) (taken_items (changes C.order f a b)) a b }
 {}
 
-/// The four operations are the connectives of their rows: the answers where neither side is on, the
+/// The four operations are the connectives of their rows: the results where neither side is on, the
 /// left alone, the right alone, and both.
 pub fn operations_are_connectives()
     ensures union { (a b : Bool) → union_table a b ≡ table_of false true true true a b }

@@ -8,7 +8,7 @@ ghost use Rattle.range_merge.specs.Counting.{AddsAtMost};
 ghost use Rattle.range_merge.specs.Owners.{owners};
 ghost use Rattle.range_merge.specs.Stages.{Begins, IfOn, IsFirstRun, IsTurn, Leaves, Ran, Stage};
 ghost use Rattle.range_merge.specs.Runs.{weight};
-ghost use Rattle.range_merge.specs.OneRun.{FirstsStand, ahead_of, takes};
+ghost use Rattle.range_merge.specs.OneRun.{ahead_of, takes};
 ghost use Rattle.range_merge.specs.declared.runs.Run.TheVariants.{Left, Right};
 
 use crate::compare::Compare;

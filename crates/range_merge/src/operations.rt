@@ -1,5 +1,5 @@
 //! The operations on two sets, each as the places where its connective changes.
-ghost use Rattle.std.specs.Prelude.{◌≡◌, Bool, false, true, not};
+ghost use Rattle.std.specs.Prelude.{◌≡◌, false, true, not};
 ghost use Rattle.range_merge.specs.Connective.{Table, differ, union_table, intersection_table, difference_table, symmetric_difference_table, table_of};
 
 /// A boolean operation on two sides (a connective), and where it changes.
@@ -7,20 +7,20 @@ pub trait MergeOperation {
     // The table from whether the left and the right side are on.
     ghost connective: { Self → Table };
 
-    /// Whether the answer changes where the left side alone does, while the right is as `bc` says.
+    /// Whether the result changes where the left side alone does, while the right is as `bc` says.
     fn takes_a(&self, bc: bool) -> bool
         ensures { result ≡ differ (connective self.now false bc) (connective self.now true bc) };
 
-    /// Whether the answer changes where the right side alone does, while the left is as `ac` says.
+    /// Whether the result changes where the right side alone does, while the left is as `ac` says.
     fn takes_b(&self, ac: bool) -> bool
         ensures { result ≡ differ (connective self.now ac false) (connective self.now ac true) };
 
-    /// Whether the answer changes where both sides do, which stood as `ac` and `bc` say.
+    /// Whether the result changes where both sides do, which stood as `ac` and `bc` say.
     fn takes_both(&self, ac: bool, bc: bool) -> bool
         ensures { result ≡
             differ (connective self.now ac bc) (connective self.now (not ac) (not bc)) };
 
-    /// The answer where both sides are off.
+    /// The result where both sides are off.
     fn when_off(&self) -> bool
         ensures { result ≡ connective self.now false false };
 }
@@ -37,16 +37,16 @@ pub struct DiffOp;
 /// In one of the two sets and not in the other.
 pub struct XorOp;
 
-/// Any of the sixteen connectives, by its four answers.
+/// Any of the sixteen connectives, by its four results.
 #[derive(Clone, Copy, Debug, PartialEq, Eq)]
 pub struct Connective {
-    /// The answer where both sides are off.
+    /// The result where both sides are off.
     pub neither: bool,
-    /// The answer where the left side alone is on.
+    /// The result where the left side alone is on.
     pub left: bool,
-    /// The answer where the right side alone is on.
+    /// The result where the right side alone is on.
     pub right: bool,
-    /// The answer where both sides are on.
+    /// The result where both sides are on.
     pub both: bool,
 }
 
@@ -171,7 +171,7 @@ impl MergeOperation for Connective {
 }
 
 impl Connective {
-    // The answer where the sides are as `ac` and `bc` say.
+    // The result where the sides are as `ac` and `bc` say.
     #[inline(always)]
     fn answer(&self, ac: bool, bc: bool) -> bool
         ensures { result ≡

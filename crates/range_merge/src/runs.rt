@@ -2,7 +2,7 @@
 //!
 //! A run's length is found by doubled steps and then by halving.
 ghost use Rattle.std.specs.Ordering.{ordering_reverse};
-ghost use Rattle.std.specs.Prelude.{option_map, ◌≡◌, ◌+◌, ◌*◌, ◌^◌, ◌<◌, ◌≤◌, drop, length, Some, slice_get, ◌-◌, List, HoldsAt};
+ghost use Rattle.std.specs.Prelude.{option_map, ◌≡◌, ◌+◌, ◌*◌, ◌^◌, ◌<◌, ◌≤◌, drop, length, Some, slice_get, ◌-◌, HoldsAt};
 ghost use Rattle.range_merge.specs.Boundaries.{IsAscending};
 ghost use Rattle.range_merge.specs.Counting.{AddsAtMost};
 ghost use Rattle.range_merge.specs.Runs.{digits, run_len, runs};
@@ -137,7 +137,7 @@ struct Bracket {
 
 /// How many items at the front of a side are below `key`, where the first is known to be.
 ///
-/// For an answer of `n` it makes at most twice as many comparisons as `n` has binary digits, less
+/// For a result of `n` it makes at most twice as many comparisons as `n` has binary digits, less
 /// one. Most runs are of one item, so the second is looked at before any step is doubled.
 #[inline(always)]
 pub(crate) fn gallop<K, L: Indexed<K>, C: Compare<K>>(side: &L, key: &K, cmp: &mut C) -> Below

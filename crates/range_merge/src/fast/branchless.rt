@@ -5,7 +5,7 @@
 //! step is a constant in the compiled code, and a level takes few instructions.
 //!
 //! Of a longer list whose items are read fast, each comparison selects the half in which it goes on.
-ghost use Rattle.std.specs.Prelude.{◌≡◌, ℕ, ◌+◌, ◌-◌, ◌*◌, ◌^◌, ◌<◌, ◌≤◌, length, min};
+ghost use Rattle.std.specs.Prelude.{◌≡◌, ◌+◌, ◌-◌, ◌*◌, ◌^◌, ◌<◌, ◌≤◌, length, min};
 ghost use Rattle.range_merge.specs.Boundaries.{IsAscending};
 ghost use Rattle.range_merge.specs.Counting.{AddsAtMost};
 ghost use Rattle.range_merge.specs.Runs.{digits};
@@ -86,7 +86,7 @@ fn first_comparison<K, C: Compare<K>>(items: &[K], key: &K, cmp: &mut C, levels:
     let past = items.len() - power + 1;
     let how = cmp.compare(&items[power - 1], key);
     AtOrBelow {
-        // A shift by the answer would make each search wait for the one before.
+        // A shift by the result would make each search wait for the one before.
         len: select_unpredictable(how.is_le(), past, 0),
         has_equal: how.is_eq(),
     }

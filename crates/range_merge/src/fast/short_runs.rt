@@ -8,7 +8,6 @@ ghost use Rattle.range_merge.specs.Owners.{owners};
 ghost use Rattle.range_merge.specs.Stages.{Begins, GoesOn, IfOn, Stage};
 ghost use Rattle.range_merge.specs.Runs.{weight};
 ghost use Rattle.range_merge.specs.ShortRuns.{odd_from};
-ghost use Rattle.range_merge.specs.OneRun.{FirstsStand};
 
 pub(crate) mod copied;
 pub(crate) mod counted;
@@ -59,22 +58,6 @@ pub(crate) struct ReadSoFar {
 }
 
 impl ReadSoFar {
-    /// The start of both lists, where nothing was read.
-    #[inline(always)]
-    pub(crate) fn start(next: Ordering) -> Self
-        ensures lefts { result.i ≡ 0 }
-        ensures rights { result.j ≡ 0 }
-        ensures taken { result.k ≡ 0 }
-        ensures next { result.next ≡ next }
-    {
-        ReadSoFar {
-            i: 0,
-            j: 0,
-            k: 0,
-            next,
-        }
-    }
-
     /// The first unread items of lists that begin at their last even places: the second item of one
     /// whose side is on, the first of one whose side is off.
     #[inline(always)]
@@ -105,6 +88,24 @@ impl ReadSoFar {
             i: self.i % 2,
             j: self.j % 2,
             k,
+            next: self.next,
+        }
+    }
+
+    /// How far a read came from a place on, where nothing had been put out.
+    #[inline(always)]
+    pub(crate) fn since(self, from: Self) -> Self
+        requires lefts { from.i ≤ self.i }
+        requires rights { from.j ≤ self.j }
+        ensures lefts { result.i ≡ self.i - from.i }
+        ensures rights { result.j ≡ self.j - from.j }
+        ensures taken { result.k ≡ self.k }
+        ensures next { result.next ≡ self.next }
+    {
+        ReadSoFar {
+            i: self.i - from.i,
+            j: self.j - from.j,
+            k: self.k,
             next: self.next,
         }
     }

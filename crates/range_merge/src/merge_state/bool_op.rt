@@ -45,7 +45,7 @@ impl<'a, K> BoolOpMergeState<'a, K> {
         ensures comparisons { AddsAtMost (C.count cmp.old) (C.count cmp.new) (2 * weight C.order a.now b.now) }
     {
         let mut state = Self::new(a, b);
-        // Nothing is lost: whether the merge stopped is what the state answers.
+        // Nothing is lost: whether the merge stopped is what the state returns.
         let _ = merging::merge(&mut state, op, cmp);
         state.result()
     }

@@ -1,5 +1,5 @@
 //! A merge that copies what is taken into a list.
-ghost use Rattle.std.specs.Prelude.{◌≡◌, ◌+◌, ◌*◌, ◌^◌, ◌<◌, ◌≤◌, ◌↔◌, false, [], length, map, All, IsTrue, IfOk, ⊤, ℕ, Bool, true, List, ◌++◌, ◌∷◌, IsOk, IsErr, OnOk};
+ghost use Rattle.std.specs.Prelude.{◌≡◌, ◌+◌, ◌*◌, ◌^◌, ◌<◌, ◌≤◌, ◌↔◌, false, [], length, map, All, IsTrue, IfOk, ⊤, ℕ, true, List, ◌++◌, ◌∷◌, IsOk, OnOk};
 ghost use Rattle.std.specs.Vec.{vec_capacity};
 ghost use Rattle.smallvec.specs.SmallVec.{HasRoomFor};
 ghost use Rattle.range_merge.specs.Boundaries.{IsAscending};

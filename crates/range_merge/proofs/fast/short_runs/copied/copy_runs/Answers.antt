@@ -1,7 +1,6 @@
-use Rattle.std.proofs.Common.{◌≡◌, ◌+◌, ◌-◌, ◌≤◌, ◌<◌, ◌^◌, ◌%◌, ℕ, List, length, take, drop, refl, ap, sym, ◌∙◌, arith}
+use Rattle.std.proofs.Common.{◌≡◌, ◌+◌, ◌-◌, ◌≤◌, ◌<◌, ◌%◌, length, take, drop, refl, ap, ◌∙◌, arith}
 use Rattle.std.proofs.lemmas.List.{length-drop, drop-drop, take_rest}
 use Rattle.std.proofs.lemmas.Option.{slice_get_read, slice_get_within}
-use Rattle.range_merge.specs.ShortRuns.{place}
 use Rattle.range_merge.proofs.EvenSteps.{AreSixteen-reads, Came-sixteen, before-rest, even-part, even-then, item-behind, one-few, parted}
 use Rattle.range_merge.proofs.CopySteps.{Reads-start, Reads-cost, Reads-made, behind-more}
 use Rattle.range_merge.proofs.fast.short_runs.copied.copy_runs.Goals as goal

@@ -1,12 +1,12 @@
-use Rattle.std.proofs.Common.{◌≡◌, ℕ, ◌+◌, ◌-◌, ◌%◌, ◌≤◌, List, length, take, drop, false, refl, sym, ap, ◌∙◌, arith}
+use Rattle.std.proofs.Common.{◌≡◌, ℕ, ◌+◌, ◌-◌, ◌%◌, ◌≤◌, List, length, take, drop, false, refl, sym, ◌∙◌, arith}
 use Rattle.std.proofs.lemmas.List.{length-drop, length-take-le}
 use Rattle.range_merge.specs.ShortRuns.{place}
 use Rattle.range_merge.proofs.EvenSteps.{AreSixteen-room, few-even, window-item}
 use Rattle.range_merge.proofs.CopySteps.{behind-four, behind-window, slice_get-take}
 use Rattle.range_merge.proofs.fast.short_runs.copied.sixteen_steps.Goals as goal
 
-length-room : {K : Type 0} (k : ℕ) (out : List K) → k + 16 ≤ length out → length (take (k + 16 - k) (drop k out)) ≡ 16
-length-room k out some = length-take-le (k + 16 - k) (drop k out) (omega (arith, length-drop k out, some)) ∙ omega arith
+length-room : {K : Type 0} (k : ℕ) (out : List K) → k + 17 ≤ length out → length (take (k + 17 - k) (drop k out)) ≡ 17
+length-room k out some = length-take-le (k + 17 - k) (drop k out) (omega (arith, length-drop k out, some)) ∙ omega arith
 
 pub four_more-four-requires-clause-left_some : goal.four_more-four-requires-clause-left_some
 four_more-four-requires-clause-left_some g c = omega (arith, length-take-le 18 c.args.a.now c.requires.left_some)
@@ -67,8 +67,8 @@ returns-clause-steps g c =
     let room_is = length-room at.k out c.requires.room in
     let in_room : read.result.at.k ≤ length read.new.out =
     omega (arith, room_is, four.ensures.len, eight.ensures.len, twelve.ensures.len, read.ensures.len, four.ensures.within, eight.ensures.within, twelve.ensures.within, read.ensures.within) in
-    AreSixteen-room g.P.Copier.alike g.C.Compare.order (g.O.MergeOperation.connective c.args.op.now) c.args.a.now c.args.b.now 18 18 at.k (at.k + 16 - at.k) read.result.at.k at.i at.j out read.new.out
-    (place (at.i % 2) (at.j % 2) (take 0 (take (at.k + 16 - at.k) (drop at.k out))) at.next false (count c.args.cmp.now))
+    AreSixteen-room g.P.Copier.alike g.C.Compare.order (g.O.MergeOperation.connective c.args.op.now) c.args.a.now c.args.b.now 18 18 at.k (at.k + 17 - at.k) read.result.at.k at.i at.j out read.new.out
+    (place (at.i % 2) (at.j % 2) (take 0 (take (at.k + 17 - at.k) (drop at.k out))) at.next false (count c.args.cmp.now))
     (place read.result.at.i read.result.at.j (take read.result.at.k read.new.out) read.result.at.next read.result.is_long (count read.new.cmp))
     (sym (few-even at.i c.requires.left_few)) (sym (few-even at.j c.requires.right_few)) refl refl (omega (arith, c.requires.room)) in_room
     record {
@@ -95,7 +95,7 @@ pub returns-clause-behind : goal.returns-clause-behind
 returns-clause-behind g c =
     let out = c.args.out.now in
     let k = c.args.at.k in
-    let room = take (k + 16 - k) (drop k out) in
+    let room = take (k + 17 - k) (drop k out) in
     let four = c.four_more-four in
     let eight = c.four_more-eight in
     let twelve = c.four_more-twelve in
@@ -103,7 +103,7 @@ returns-clause-behind g c =
     let room_is = length-room k out c.requires.room in
     let few : read.result.at.k ≤ 16 = omega (arith, four.ensures.within, eight.ensures.within, twelve.ensures.within, read.ensures.within) in
     λ keep.
-    behind-window k (k + 16 - k) read.result.at.k out out read.new.out (omega (arith, c.requires.room)) (omega (arith, room_is, few, four.ensures.len, eight.ensures.len, twelve.ensures.len, read.ensures.len))
+    behind-window k (k + 17 - k) read.result.at.k out out read.new.out (omega (arith, c.requires.room)) (omega (arith, room_is, few, four.ensures.len, eight.ensures.len, twelve.ensures.len, read.ensures.len))
     (omega (arith, room_is, few))
     (behind-four four.result.at.k eight.result.at.k twelve.result.at.k read.result.at.k room four.new.out eight.new.out twelve.new.out read.new.out eight.ensures.from twelve.ensures.from read.ensures.from
     (four.ensures.behind keep) (eight.ensures.behind keep) (twelve.ensures.behind keep) (read.ensures.behind keep))

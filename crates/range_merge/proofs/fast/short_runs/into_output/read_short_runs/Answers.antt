@@ -1,5 +1,3 @@
-use Rattle.std.proofs.Common.{◌≡◌, drop}
-use Rattle.range_merge.specs.ShortRuns.{odd_from}
 use Rattle.range_merge.proofs.EvenSteps.{first-unread, odd-from, rest-read}
 use Rattle.range_merge.proofs.fast.short_runs.into_output.read_short_runs.Goals as goal
 
@@ -11,7 +9,7 @@ returns-clause-progress g c = λ first.
     let read = c.apart-at.ensures.2.1 in
     let lefts = rw (← c.state.view_is) at c.requires.lefts in
     let rights = rw (← c.state.view_is) at c.requires.rights in
-    rw (c.drop_front.ensures, c.drop_front-2.ensures, ← c.state.view_is)
+    rw (c.drop_front.ensures, c.drop_front-2.ensures, c.since-read.ensures.lefts, c.since-read.ensures.rights, ← c.state.view_is)
     (rw (
       rest-read c.args.a.now _ from.result.i at.i it.ac from.ensures.lefts lefts read.lefts,
       rest-read c.args.b.now _ from.result.j at.j it.bc from.ensures.rights rights read.rights,
@@ -29,7 +27,7 @@ returns-clause-stands g c =
     let read = c.apart-at.ensures.2.1 in
     let lefts = rw (← c.state.view_is) at c.requires.lefts in
     let rights = rw (← c.state.view_is) at c.requires.rights in
-    rw (c.drop_front.ensures, c.drop_front-2.ensures)
+    rw (c.drop_front.ensures, c.drop_front-2.ensures, c.since-read.ensures.lefts, c.since-read.ensures.rights, c.since-read.ensures.next)
     (rw (
       rest-read c.args.a.now _ from.result.i at.i it.ac from.ensures.lefts lefts read.lefts,
       rest-read c.args.b.now _ from.result.j at.j it.bc from.ensures.rights rights read.rights,

@@ -6,13 +6,14 @@ use Rattle.range_merge.proofs.fast.short_runs.counted.CountingWork.run.Goals as 
 
 pub returns : goal.returns
 returns g c =
-    let a = c.args.self.now.a.now in
-    let b = c.args.self.now.b.now in
+    let it = c.args.self.now in
+    let a = drop it.from.i it.a.now in
+    let b = drop it.from.j it.b.now in
     let at = c.read_apart.result.answer in
     let m = g.C.Compare.count c.args.cmp in
     let n = g.C.Compare.count c.read_apart.result.cmp in
     let all = weight g.C.Compare.order a b in
-    let rest = weight g.C.Compare.order (drop at.i a) (drop at.j b) in
+    let rest = weight g.C.Compare.order (drop at.i it.a.now) (drop at.j it.b.now) in
     let short : length a + length b < 2 ^ 65 = omega (arith, c.requires.ready.3) in (
       n - m,
       made-more m n c.read_apart.ensures.made,
