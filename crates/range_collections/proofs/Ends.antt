@@ -14,7 +14,7 @@ use Rattle.range_collections.proofs.CountUpTo.{count_up_to-cons_in, count_up_to-
 use Rattle.range_collections.proofs.Counted.{le-value, Greater-value, place-less}
 use Rattle.range_collections.proofs.MembersOf.{members_of-zero, members_of-in, members_of-skip, members_of-none, members_of-same, members_of-append}
 use Rattle.range_collections.proofs.Points.{is_odd-at_zero}
-use Rattle.range_collections.proofs.Rows.{up_to-value}
+use Rattle.range_collections.proofs.Fitting.{up_to-value}
 use Rattle.range_collections.proofs.Shortest.{is_le-cases, count_up_to-append, count_up_to-all, count_up_to-none, count_up_to-le_length, Less-from_le, Less-then_le, le-trans}
 
 odd_twice : (n : ℕ) → is_odd (suc (suc n)) ≡ is_odd n

@@ -44,8 +44,9 @@ pub mod Next
 pub mod Endless
 pub mod Previous
 pub mod Ranked
-pub mod Rows
-pub mod Walked
+pub mod Fitting
+pub mod FitEnds
+pub mod FitSearches
 pub mod NextMultiple
 pub mod FirstGap
 pub mod MembersOf
@@ -59,3 +60,5 @@ pub mod Searched
 pub mod Around
 pub mod ReadInPairs
 pub mod Selected
+pub mod Changing
+pub mod Settled

@@ -1,5 +1,5 @@
 -- A list with the items between two places replaced.
-use Rattle.std.proofs.Common.{◌≡◌, sym, ap, ◌∙◌, ℕ, ◌+◌, ◌≤◌, ◌<◌, Option, List, [], ◌∷◌, ◌++◌, length, take, drop, set, arith, append_assoc}
+use Rattle.std.proofs.Common.{◌≡◌, sym, ap, ◌∙◌, ℕ, ◌+◌, ◌-◌, ◌≤◌, ◌<◌, Option, List, [], ◌∷◌, ◌++◌, length, take, drop, set, arith, append_assoc}
 use Rattle.std.specs.List.{remove_range}
 use Rattle.std.specs.Option.{option_to_list}
 use Rattle.std.proofs.lemmas.List.{take-append-drop, take_at, length-append, length-drop, length-take-le, take_more_set, drop-set-lt}
@@ -72,4 +72,17 @@ module _ {K : Type 0} where
         length-spliced_front xs from start end within,
         length-drop after xs,
         e,
+      )
+
+  -- how many items there are then
+  pub length-spliced : (xs : List K) (from to : ℕ) (start end : Option K) → from ≤ to → to ≤ length xs →
+      length (spliced xs from to start end) + (to - from) ≡ length xs + (length (option_to_list start) + length (option_to_list end))
+  length-spliced xs from to start end le within =
+      omega (
+        arith,
+        length-append (take from xs) (option_to_list start ++ (option_to_list end ++ drop to xs)),
+        length-append (option_to_list start) (option_to_list end ++ drop to xs),
+        length-append (option_to_list end) (drop to xs),
+        length-take-le from xs (omega (arith, le, within)),
+        length-drop to xs,
       )

@@ -1,15 +1,17 @@
 //! The boundaries of a set, wherever they lie, as a question reads them: in a slice, or in chunks.
-ghost use Rattle.std.specs.Prelude.{◌≡◌, ◌≤◌, ◌<◌, ◌+◌, ◌-◌, ◌^◌, ◌∷◌, ℕ, List, None, Some, true, length, map, get_or, slice_get, take, drop, option_copied};
+ghost use Rattle.std.specs.Prelude.{◌≡◌, ◌≤◌, ◌<◌, ◌+◌, ◌-◌, ◌^◌, ◌∷◌, ℕ, List, None, Some, true, length, map, get_or, slice_get, take, drop, option_copied, MatchResult};
 ghost use Rattle.std.specs.List.{AllWithin};
 ghost use Rattle.std.specs.Ordering.{is_le};
 ghost use Rattle.std.specs.declared.cmp.Ordering.TheVariants.{Less, Greater};
 ghost use Rattle.range_merge.specs.Boundaries.{IsAscending, is_odd};
 ghost use Rattle.range_merge.specs.Counting.{AddsAtMost};
+ghost use Rattle.range_collections.specs.Splicing.{Finds};
 
 mod slice;
 mod unread;
 
 use crate::comparisons::Comparisons;
+pub use slice::cut_at;
 pub use unread::Unread;
 
 /// Boundaries by reference. A position is before a boundary, or at the end, and its index is the
@@ -62,6 +64,31 @@ pub trait Boundaries<'a, T: Ord + 'a>: Copy {
         ensures cheap { cost self.now < 2 ^ 65 }
         ensures comparisons { AddsAtMost count.old count.new (cost self.now) }
         ensures sharp { AddsAtMost count.old count.new (sharp_cost self.now) };
+
+    /// The position of the boundary equal to an element, or in an `Err` the one where it would go.
+    fn find(&self, value: &T, count: &mut Comparisons) -> Result<Self::Position, Self::Position>
+        requires sorted { IsAscending T.cmp (items self.now) }
+        requires made { count.old < 2 ^ 126 }
+        ensures positions { MatchResult result (is_position self.now) (is_position self.now) }
+        ensures found { Finds T.cmp (items self.now) value.now (index self.now) result }
+        ensures cheap { cost self.now < 2 ^ 65 }
+        ensures comparisons { AddsAtMost count.old count.new (cost self.now) };
+
+    /// `find` for an element above all boundaries before a position.
+    fn find_from(
+        &self,
+        from: Self::Position,
+        value: &T,
+        count: &mut Comparisons,
+    ) -> Result<Self::Position, Self::Position>
+        requires position { is_position self.now from }
+        requires before { AllWithin (λ y. T.cmp y value.now ≡ Less)
+            (items self.now) 0 (index self.now from) }
+        requires sorted { IsAscending T.cmp (items self.now) }
+        requires made { count.old < 2 ^ 125 }
+        ensures positions { MatchResult result (is_position self.now) (is_position self.now) }
+        ensures found { Finds T.cmp (items self.now) value.now (index self.now) result }
+        ensures comparisons { AddsAtMost count.old count.new (cost self.now) };
 
     /// The position before all boundaries.
     fn front(&self) -> Self::Position

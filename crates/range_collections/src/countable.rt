@@ -9,10 +9,12 @@ mod chars;
 mod from_place;
 mod multiples;
 mod numbers;
+mod value_range;
 
 pub use from_place::FromPlace;
 pub use multiples::Multiples;
 use range_entry::RangeSetEntry;
+pub use value_range::{ValueEnds, ValueRange};
 
 /// An ordered type whose values stand in a row, at most 2 to the power 128 of them.
 pub trait Countable: RangeSetEntry {

@@ -3,6 +3,7 @@
 #![tactic(auto)]
 
 mod boundaries;
+pub mod changes;
 mod comparisons;
 mod countable;
 mod iter;
@@ -14,14 +15,14 @@ mod parse;
 pub mod questions;
 mod range_set;
 mod range_set_range;
-mod row;
 mod text;
 mod view;
 mod whole_number;
 
-pub use boundaries::{Boundaries, Unread};
+pub use boundaries::{Boundaries, Unread, cut_at};
+pub use changes::Splice;
 pub use comparisons::{Comparisons, EntryCopier};
-pub use countable::{Countable, FromPlace, Multiples, Unsigned};
+pub use countable::{Countable, FromPlace, Multiples, Unsigned, ValueEnds, ValueRange};
 pub use iter::{Gaps, Iter, RangesWithin};
 pub use json::JsonError;
 pub use members::Members;
@@ -36,9 +37,8 @@ pub use range_merge::{
     MergeOperation, MergeState, MergeStateMut, NoRoom, Run, SliceIterator, SmallVecMergeState,
     UnionOp, Work, XorOp, count_up_to, merge, run_length, search,
 };
-pub use range_set::{RangeSet, RangeSet2, cut_at};
+pub use range_set::{RangeSet, RangeSet2};
 pub use range_set_range::{RangeSetRange, has_elements, write_range};
-pub use row::{EndedRanges, Row, RowWalk, Until, first_row_between, place_in, walk_to_row};
 pub use text::write_ranges;
 pub use view::{Cursor, RangeSetRef};
 pub use whole_number::WholeNumber;

@@ -114,7 +114,7 @@ impl<T: EntryClone + WholeNumber + MadeWith<Global> + Drop, const N: usize> Rang
 }
 
 impl<T: WholeNumber + Drop> RangeSetRange<T> {
-    /// Reads one range like `0..10` or `20..`, with blanks around it, or answers `None` where the
+    /// Reads one range like `0..10` or `20..`, with blanks around it, or returns `None` where the
     /// text isn't that.
     #[inline]
     pub fn parse(text: &str) -> Option<Self>

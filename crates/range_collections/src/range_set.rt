@@ -22,7 +22,6 @@ pub(crate) mod many_ranges;
 mod operations;
 mod operators;
 mod rank;
-mod splicing;
 mod taking;
 mod values;
 
@@ -34,7 +33,6 @@ use crate::view::RangeSetRef;
 use copying::copied;
 use range_entry::EntryClone;
 use smallvec::SmallVec;
-pub use splicing::cut_at;
 use std::alloc::{AllocError, Global};
 use std::default::MadeWith;
 use std::marker::Model;

@@ -1,17 +1,21 @@
 //! The boundaries of a set in a list in chunks: the mark of a position says whether its index is
 //! odd.
+ghost use Rattle.std.specs.Prelude.{◌≡◌, ◌+◌, ◌≤◌, ◌⊎◌, length, OnOk, OnErr, IsOk};
+ghost use Rattle.std.specs.Option.{option_to_list};
+ghost use Rattle.range_merge.specs.Boundaries.{is_odd as odd};
+ghost use Rattle.range_merge.specs.Runs.{digits};
+ghost use Rattle.range_collections.specs.Splicing.{spliced};
 ghost use Rattle.range_list.specs.Lists.{joined, place_at, IsPlaceAt};
 
 use crate::items::Items;
 use crate::itself::Itself;
 use crate::list::Chunks;
 use crate::place::{FRONT, Place};
-use range_collections::{Boundaries, Comparisons, Unread};
+use range_collections::changes::cut_around;
+use range_collections::{Boundaries, Comparisons, Splice, Unread};
+use std::alloc::AllocError;
 
 impl<'a, T: Ord> Boundaries<'a, T> for &'a Chunks<T, bool> {
-    ghost use Rattle.std.specs.Prelude.{◌+◌, length};
-    ghost use Rattle.range_merge.specs.Runs.{digits};
-
     type Position = Place;
 
     type Unread = Items<'a, T, bool>;
@@ -38,6 +42,18 @@ impl<'a, T: Ord> Boundaries<'a, T> for &'a Chunks<T, bool> {
         // `len` is called for its clause that it is a `usize`, which the proof cites.
         let _length = (*self).len();
         (*self).place_below(&Itself, value, count)
+    }
+
+    #[inline(always)]
+    fn find(&self, value: &T, count: &mut Comparisons) -> Result<Place, Place> {
+        // `len` is called for its clause that it is a `usize`, which the proof cites.
+        let _length = (*self).len();
+        (*self).find(&Itself, value, count)
+    }
+
+    #[inline(always)]
+    fn find_from(&self, from: Place, value: &T, count: &mut Comparisons) -> Result<Place, Place> {
+        (*self).find_from(from, &Itself, value, count)
     }
 
     #[inline(always)]
@@ -87,5 +103,72 @@ impl<'a, T> Unread<'a, T> for Items<'a, T, bool> {
     #[inline(always)]
     fn take_last(&mut self) -> Option<&'a T> {
         Items::take_last(self)
+    }
+}
+
+impl<T: Ord + Drop> Splice<T> for Chunks<T, bool> {
+    type Position = Place;
+
+    ghost items = { joined };
+
+    ghost is_position = { IsPlaceAt };
+
+    ghost index = { place_at };
+
+    ghost cost = { λ list. digits (length (joined list)) + digits 512 };
+
+    ghost room = { 0 };
+
+    #[inline(always)]
+    fn cuts(
+        &self,
+        start: T,
+        end: T,
+        inside: bool,
+        count: &mut Comparisons,
+    ) -> ((Place, Option<T>), (Place, Option<T>)) {
+        cut_around(self, start, end, inside, count)
+    }
+
+    #[inline(always)]
+    fn splice(
+        &mut self,
+        from: Place,
+        to: Place,
+        start: Option<T>,
+        end: Option<T>,
+    ) -> Result<(), AllocError>
+        requires from { IsPlaceAt self.old from }
+        requires to { IsPlaceAt self.old to }
+        requires ordered { place_at self.old from ≤ place_at self.old to }
+        requires parity { odd (place_at self.old from + length (option_to_list start)) ≡
+            odd (place_at self.old to + length (option_to_list end)) }
+        ensures items { OnOk result (joined self.new ≡
+            spliced (joined self.old) (place_at self.old from) (place_at self.old to) start end) }
+        ensures unchanged { OnErr result (joined self.new ≡ joined self.old) }
+        ensures succeeds { (length (spliced (joined self.old) (place_at self.old from)
+            (place_at self.old to) start end) ≤ length (joined self.old))
+            ⊎ (length (spliced (joined self.old) (place_at self.old from)
+            (place_at self.old to) start end) ≤ 0) → IsOk result }
+    {
+        match Chunks::splice(self, from, to, start, end) {
+            Ok(()) => Ok(()),
+            Err(_) => Err(AllocError),
+        }
+    }
+
+    #[inline(always)]
+    fn is_endless(&self) -> bool {
+        self.mark_at(self.end())
+    }
+
+    #[inline(always)]
+    fn take_first_two(&mut self) -> Option<(T, Option<T>)> {
+        self.pop_first_two()
+    }
+
+    #[inline(always)]
+    fn take_last(&mut self) -> Option<T> {
+        self.pop_last()
     }
 }

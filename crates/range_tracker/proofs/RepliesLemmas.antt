@@ -6,7 +6,7 @@ use Rattle.std.proofs.Math.Path.{fun_ext}
 use Rattle.range_tracker.specs.Offsets.{Offsets}
 use Rattle.range_tracker.specs.Tracked.{Tracked}
 use Rattle.range_tracker.specs.Commands.{Reply, MayAnswer, after_command, after_reply, after_replies, AreReplies}
-use Rattle.range_tracker.specs.declared.command.Command.{Command}
+use Rattle.range_tracker.specs.declared.tracker.Command.{Command}
 use Rattle.range_merge.specs.Boundaries.{member}
 use Rattle.std.specs.Ordering.{nat_cmp}
 

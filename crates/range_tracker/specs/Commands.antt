@@ -6,8 +6,8 @@
 --     AreReplies limit had commands replies   each reply is one that its command may be answered after the accepted ones before it
 use Rattle.std.specs.Prelude.{◌≡◌, ◌≢◌, ◌↔◌, ℕ, ◌<◌, ◌≤◌, ◌&&◌, ◌||◌, not, List, [], ◌∷◌, Result, Ok, Err}
 use Rattle.range_tracker.specs.Offsets.{Offsets, is_within, HasBoundaries}
-use Rattle.range_tracker.specs.declared.command.Command.{Command}
-use Rattle.range_tracker.specs.declared.command.Command.TheVariants.{Add, Forget}
+use Rattle.range_tracker.specs.declared.tracker.Command.{Command}
+use Rattle.range_tracker.specs.declared.tracker.Command.TheVariants.{Add, Forget}
 use Rattle.range_tracker.specs.declared.track_error.TrackError.{TrackError}
 use Rattle.range_tracker.specs.declared.track_error.TrackError.TheVariants.{TooMany, OutOfMemory}
 

@@ -5,7 +5,7 @@ ghost use Rattle.range_tracker.specs.Offsets.{Offsets, HasBoundaries};
 ghost use Rattle.range_tracker.specs.Commands.{MayAnswer, after_command};
 ghost use Rattle.range_tracker.specs.declared.track_error.TrackError.TheVariants.{OutOfMemory};
 
-use crate::command::Command;
+use crate::tracker::Command;
 
 /// Memory runs out only where something was there, and the list grows to what the limit allows.
 pub fn memory_runs_out_only_where_the_list_grows()

@@ -2,13 +2,9 @@
 //! missing, and no more boundaries than a limit.
 #![tactic(auto)]
 
-mod command;
 pub mod laws;
-mod limit;
 mod track_error;
 mod tracker;
 
-pub use command::Command;
-pub use limit::within_limit;
-pub use track_error::TrackError;
-pub use tracker::Tracker;
+pub use track_error::{TrackError, within_limit};
+pub use tracker::{Command, Tracker};

@@ -1,4 +1,7 @@
-//! Why a tracker refuses a command.
+//! Why a tracker refuses a command, and the limit by which it does.
+ghost use Rattle.std.specs.Prelude.{◌≡◌, ◌<◌, ◌≤◌, OnOk, IfErr};
+ghost use Rattle.range_tracker.specs.declared.track_error.TrackError.TheVariants.{TooMany};
+
 use std::alloc::AllocError;
 use std::error::Error;
 use std::fmt;
@@ -41,3 +44,15 @@ impl fmt::Display for TrackError {
 }
 
 impl Error for TrackError {}
+
+/// Refuses more boundaries than the limit.
+pub fn within_limit(boundaries: usize, limit: usize) -> Result<(), TrackError>
+    ensures within { OnOk result (boundaries ≤ limit) }
+    ensures too_many { IfErr result (λ error. (error ≡ TooMany boundaries) × (limit < boundaries)) }
+{
+    if boundaries > limit {
+        Err(TrackError::TooMany { boundaries })
+    } else {
+        Ok(())
+    }
+}

@@ -13,9 +13,7 @@ ghost use Rattle.range_tracker.specs.Offsets.{IsListOf, HasBoundaries, is_within
 ghost use Rattle.range_tracker.specs.Commands.{MayAnswer, AreReplies, after_command, after_replies};
 ghost use Rattle.range_tracker.specs.Tracked.{recorded};
 
-use crate::command::Command;
-use crate::limit::within_limit;
-use crate::track_error::TrackError;
+use crate::track_error::{TrackError, within_limit};
 use range_collections::laws::changes_mean_the_connective;
 use range_collections::{
     Comparisons, DiffOp, Gaps, Iter, MergeOperation, RangeSet2, RangeSetRef, UnionOp,
@@ -23,6 +21,15 @@ use range_collections::{
 use std::alloc::{AllocError, Global};
 use std::marker::Model;
 use std::ops::Range;
+
+/// A change of the offsets that a tracker has.
+#[derive(Debug, PartialEq, Eq, Drop)]
+pub enum Command {
+    /// The offsets of the range are there.
+    Add(Range<u64>),
+    /// The offsets of the range aren't there.
+    Forget(Range<u64>),
+}
 
 /// Which offsets are there. A clause reads it as the strictly sorted list of their boundaries and
 /// the limit.

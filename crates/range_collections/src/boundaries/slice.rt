@@ -1,12 +1,18 @@
 //! Boundaries in a slice: a position is its index.
+ghost use Rattle.std.specs.Prelude.{◌<◌, ◌^◌, length};
+ghost use Rattle.range_merge.specs.Boundaries.{IsAscending};
+ghost use Rattle.range_merge.specs.Counting.{AddsAtMost};
+ghost use Rattle.range_merge.specs.Runs.{digits};
+ghost use Rattle.range_collections.specs.Splicing.{IsCut};
+
 use crate::boundaries::Boundaries;
+use crate::changes::cut;
 use crate::comparisons::Comparisons;
 use crate::lists::is_odd;
 use range_merge::{count_up_to, search};
 
 impl<'a, T: Ord> Boundaries<'a, T> for &'a [T] {
-    ghost use Rattle.std.specs.Prelude.{◌≤◌, length};
-    ghost use Rattle.range_merge.specs.Runs.{digits};
+    ghost use Rattle.std.specs.Prelude.{◌≤◌};
 
     type Position = usize;
 
@@ -37,6 +43,18 @@ impl<'a, T: Ord> Boundaries<'a, T> for &'a [T] {
             Ok(i) => i,
             Err(i) => i,
         }
+    }
+
+    #[inline(always)]
+    fn find(&self, value: &T, count: &mut Comparisons) -> Result<usize, usize> {
+        // `len` is called for its clause that it is a `usize`, which the proof cites.
+        let _length = self.len();
+        search(*self, value, count)
+    }
+
+    #[inline(always)]
+    fn find_from(&self, _from: usize, value: &T, count: &mut Comparisons) -> Result<usize, usize> {
+        search(*self, value, count)
     }
 
     #[inline(always)]
@@ -78,4 +96,21 @@ impl<'a, T: Ord> Boundaries<'a, T> for &'a [T] {
     fn between(&self, from: usize, to: usize) -> &'a [T] {
         &(*self)[from..to]
     }
+}
+
+/// `changes::cut_at` for a slice. It takes a counter that has made more comparisons.
+#[inline]
+pub fn cut_at<T: Ord + Drop>(
+    items: &[T],
+    at: T,
+    inside: bool,
+    count: &mut Comparisons,
+) -> (usize, Option<T>)
+    requires sorted { IsAscending T.cmp items.now }
+    requires made { count.old < 2 ^ 127 }
+    ensures cut { IsCut T.cmp inside items.now at result.0 result.1 }
+    ensures comparisons { AddsAtMost count.old count.new (digits (length items.now)) }
+{
+    let found = search(items, &at, count);
+    cut(items, found, at, inside)
 }

@@ -1,4 +1,4 @@
-//! What calls answer: what a refusal leaves, where there is none, and what pins an answer.
+//! What calls return: what a refusal leaves, where there is none, and what pins a result.
 ghost use Rattle.std.specs.Prelude.{◌≡◌, ◌≤◌, ◌+◌, ◌⊎◌, ℕ, ℤ, ◌<◌, not, true, List, All, Contains, Result, Ok, Err, IsOk, Some, None, length, take, filter, slice_get};
 ghost use Rattle.std.specs.List.{flat_map};
 ghost use Rattle.std.specs.Str.{IsUtf8};

@@ -6,7 +6,7 @@ ghost use Rattle.std.specs.declared.cmp.Ordering.TheVariants.{Less, Equal};
 ghost use Rattle.range_merge.specs.Boundaries.{member};
 ghost use Rattle.range_collections.specs.Covered.{members_below};
 ghost use Rattle.range_collections.specs.Countable.{signed_place};
-ghost use Rattle.range_collections.specs.Fits.{IsRow, IsFirstFit, IsMultiple};
+ghost use Rattle.range_collections.specs.Fits.{IsFit, IsFirstFit, IsMultiple};
 ghost use Rattle.range_collections.specs.Members.{IsPrevious, members_of};
 
 use crate::countable::Countable;
@@ -30,7 +30,7 @@ pub fn the_members_are_listed<T: Countable>()
 /// Values in a row start between the ends, and the first of them is a member, or none is.
 pub fn values_in_a_row_lie_between_the_ends<T: Countable>()
     ensures { (inside : Bool) (items : List T) (start end count at : ℕ) →
-        IsRow T.cmp T.value inside items start end count at → 0 < count →
+        IsFit T.cmp T.value inside items start end count at → 0 < count →
         (start ≤ at) × (at < end) × (member T.cmp items (T.value at) ≡ inside) }
 {}
 

@@ -10,9 +10,9 @@ ghost use Rattle.range_collections.specs.InPlace.{AreOwnElseOf};
 ghost use Rattle.range_collections.specs.ManyRanges.{EndsBefore};
 ghost use Rattle.range_collections.specs.Splicing.{IsCut};
 
+use crate::boundaries::cut_at;
 use crate::comparisons::Comparisons;
 use crate::lists::{append_both, is_odd};
-use crate::range_set::splicing::cut_at;
 use smallvec::SmallVec;
 use std::alloc::{AllocError, Global};
 use std::default::MadeWith;

@@ -1,4 +1,4 @@
-//! What the set's view answers, in the order of the view's calls.
+//! What the set's view returns, in the order of the view's calls.
 ghost use Rattle.std.specs.Prelude.{◌≡◌, ◌↔◌, ◌+◌, ◌*◌, ◌<◌, ◌^◌, List, length, min, false, IsTrue, [], None, Some, MatchOption, slice_get, true, Contains, IsSome, IfSome, ◌≤◌, IfNone, ◌&&◌, not, filter};
 ghost use Rattle.std.specs.List.{last_or};
 ghost use Rattle.range_merge.specs.Boundaries.{member};

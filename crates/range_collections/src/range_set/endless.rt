@@ -1,4 +1,4 @@
-//! Ranges without an end against a set, as its view answers.
+//! Ranges without an end against a set, as its view does.
 ghost use Rattle.std.specs.Prelude.{◌↔◌, IsTrue};
 ghost use Rattle.range_collections.specs.Endless.{HasAllFrom, HasMemberFrom};
 

@@ -2,28 +2,26 @@
 ghost use Rattle.std.specs.Prelude.{◌≡◌, ◌<◌, ◌≤◌, ◌+◌, ℕ, true, false, cond, Some, None, IfSome, IfNone};
 ghost use Rattle.std.specs.Ordering.{is_le};
 ghost use Rattle.range_merge.specs.Boundaries.{member};
-ghost use Rattle.range_collections.specs.Fits.{Fits, IsRow, IsFirstFit, IsMultiple};
+ghost use Rattle.range_collections.specs.Fits.{Fits, IsFit, IsFirstFit, IsMultiple};
 
-use crate::countable::{Countable, FromPlace, Unsigned};
+use crate::countable::{Countable, FromPlace, Unsigned, ValueRange};
 use crate::range_set::RangeSet;
-use std::ops::Range;
 
 impl<T: Unsigned, const N: usize> RangeSet<T, N> {
     /// The least number from which `len` numbers lie in the range, none of them a member, or `None`
     /// if there is no such number. If `len` is 0, it is the start of the range, unless that is
-    /// reversed.
+    /// reversed. A range without an end goes up to the greatest number.
     ///
-    /// It looks at each gap from the start up to the answer, and takes no memory.
-    pub fn first_fit(&self, within: Range<T>, len: T) -> Option<T>
-        ensures fits { IfSome result
-            (Fits T.cmp T.place self.now within.start within.end len) }
+    /// It looks at each gap from the start up to the result, and takes no memory.
+    pub fn first_fit<R: ValueRange<T>>(&self, within: R, len: T) -> Option<T>
+        ensures fits { IfSome result (Fits T.cmp T.place self.now
+            (R.start within) (R.end within) len) }
         ensures free { IfSome result (λ at. (x : T) → T.place at ≤ T.place x →
             T.place x < T.place at + T.place len → member T.cmp self.now x ≡ false) }
-        ensures least { IfSome result (λ x. (y : T) →
-            Fits T.cmp T.place self.now within.start within.end len y →
-            T.place x ≤ T.place y) }
-        ensures none { IfNone result ((x : T) →
-            ¬ (Fits T.cmp T.place self.now within.start within.end len x)) }
+        ensures least { IfSome result (λ x. (y : T) → Fits T.cmp T.place self.now
+            (R.start within) (R.end within) len y → T.place x ≤ T.place y) }
+        ensures none { IfNone result ((x : T) → ¬ (Fits T.cmp T.place self.now
+            (R.start within) (R.end within) len x)) }
     {
         self.as_ref().first_fit(within, len)
     }
@@ -31,39 +29,39 @@ impl<T: Unsigned, const N: usize> RangeSet<T, N> {
 
 impl<T: Countable + Copy, const N: usize> RangeSet<T, N> {
     /// The least value from which `count` values lie in the range, none of them a member, or `None`
-    /// if there is none. If `count` is 0, it is the start of the range, unless that is reversed.
+    /// if there is none. If `count` is 0, it is the start of the range, unless that is reversed. A
+    /// range without an end goes up to the greatest value.
     ///
-    /// It looks at each gap from the start up to the answer, and takes no memory.
-    pub fn first_fit_count(&self, within: Range<T>, count: u128) -> Option<T>
-        ensures fits { IfSome result (λ at. IsRow T.cmp T.value false self.now
-            (T.place within.start) (T.place within.end) count (T.place at)) }
-        ensures least { IfSome result (λ at. (n : ℕ) → IsRow T.cmp T.value false
-            self.now (T.place within.start) (T.place within.end) count n →
-            T.place at ≤ n) }
-        ensures none { IfNone result ((n : ℕ) → ¬ (IsRow T.cmp T.value false
-            self.now (T.place within.start) (T.place within.end) count n)) }
+    /// It looks at each gap from the start up to the result, and takes no memory.
+    pub fn first_fit_count<R: ValueRange<T>>(&self, within: R, count: u128) -> Option<T>
+        ensures fits { IfSome result (λ at. IsFit T.cmp T.value false self.now
+            (R.start within) (R.end within) count (T.place at)) }
+        ensures least { IfSome result (λ at. (n : ℕ) → IsFit T.cmp T.value false
+            self.now (R.start within) (R.end within) count n → T.place at ≤ n) }
+        ensures none { IfNone result ((n : ℕ) → ¬ (IsFit T.cmp T.value false
+            self.now (R.start within) (R.end within) count n)) }
 
-        // It starts the first gap that is long enough.
-        ensures first { 0 < count → IsFirstFit T.cmp T.place self.now
-            within.start within.end count result }
-        ensures nothing { count ≡ 0 →
-            result ≡ cond (is_le (T.cmp within.start within.end)) (Some within.start) None }
+        // Of a range with an end, it starts the first gap that is long enough.
+        ensures first { (s e : T) → R.is_from_to within s e → 0 < count →
+            IsFirstFit T.cmp T.place self.now s e count result }
+        ensures nothing { (s e : T) → R.is_from_to within s e → count ≡ 0 →
+            result ≡ cond (is_le (T.cmp s e)) (Some s) None }
     {
         self.as_ref().first_fit_count(within, count)
     }
 
     /// The least value from which `count` members in a row lie in the range, or `None` if there is
-    /// none. If `count` is 0, it is the start of the range, unless that is reversed.
+    /// none. If `count` is 0, it is the start of the range, unless that is reversed. A range without
+    /// an end goes up to the greatest value.
     ///
-    /// It looks at each range from the start up to the answer, and takes no memory.
-    pub fn first_run(&self, within: Range<T>, count: u128) -> Option<T>
-        ensures fits { IfSome result (λ at. IsRow T.cmp T.value true self.now
-            (T.place within.start) (T.place within.end) count (T.place at)) }
-        ensures least { IfSome result (λ at. (n : ℕ) → IsRow T.cmp T.value true
-            self.now (T.place within.start) (T.place within.end) count n →
-            T.place at ≤ n) }
-        ensures none { IfNone result ((n : ℕ) → ¬ (IsRow T.cmp T.value true
-            self.now (T.place within.start) (T.place within.end) count n)) }
+    /// It looks at each range from the start up to the result, and takes no memory.
+    pub fn first_run<R: ValueRange<T>>(&self, within: R, count: u128) -> Option<T>
+        ensures fits { IfSome result (λ at. IsFit T.cmp T.value true self.now
+            (R.start within) (R.end within) count (T.place at)) }
+        ensures least { IfSome result (λ at. (n : ℕ) → IsFit T.cmp T.value true
+            self.now (R.start within) (R.end within) count n → T.place at ≤ n) }
+        ensures none { IfNone result ((n : ℕ) → ¬ (IsFit T.cmp T.value true
+            self.now (R.start within) (R.end within) count n)) }
     {
         self.as_ref().first_run(within, count)
     }
@@ -71,19 +69,25 @@ impl<T: Countable + Copy, const N: usize> RangeSet<T, N> {
 
 impl<T: FromPlace, const N: usize> RangeSet<T, N> {
     /// The least multiple of `align` from which `count` values lie in the range, none of them a
-    /// member. `None` if there is none, or if `align` is 0. The number of a `char` is its place.
+    /// member. `None` if there is none, or if `align` is 0. The number of a `char` is its place. A
+    /// range without an end goes up to the greatest value.
     ///
-    /// It looks at each gap from the start up to the answer, and takes no memory.
-    pub fn first_fit_aligned(&self, within: Range<T>, count: u128, align: u128) -> Option<T>
-        ensures fits { IfSome result (λ at. IsRow T.cmp T.value false self.now
-            (T.place within.start) (T.place within.end) count (T.place at)) }
+    /// It looks at each gap from the start up to the result, and takes no memory.
+    pub fn first_fit_aligned<R: ValueRange<T>>(
+        &self,
+        within: R,
+        count: u128,
+        align: u128,
+    ) -> Option<T>
+        ensures fits { IfSome result (λ at. IsFit T.cmp T.value false self.now
+            (R.start within) (R.end within) count (T.place at)) }
         ensures aligned { IfSome result (λ at. IsMultiple T.zero align (T.place at)) }
-        ensures least { IfSome result (λ at. (n : ℕ) → IsMultiple T.zero align n → IsRow T.cmp T.value false
-            self.now (T.place within.start) (T.place within.end) count n →
-            T.place at ≤ n) }
-        ensures none { 0 < align → IfNone result ((n : ℕ) → IsMultiple T.zero align n →
-            ¬ (IsRow T.cmp T.value false self.now
-            (T.place within.start) (T.place within.end) count n)) }
+        ensures least { IfSome result (λ at. (n : ℕ) → IsMultiple T.zero align n →
+            IsFit T.cmp T.value false self.now
+            (R.start within) (R.end within) count n → T.place at ≤ n) }
+        ensures none { 0 < align → IfNone result ((n : ℕ) → n < T.count → IsMultiple T.zero align n →
+            ¬ (IsFit T.cmp T.value false self.now
+            (R.start within) (R.end within) count n)) }
         ensures no_align { align ≡ 0 → result ≡ None }
     {
         self.as_ref().first_fit_aligned(within, count, align)

@@ -13,10 +13,10 @@ ghost use Rattle.range_collections.specs.Ranges.{range_items};
 ghost use Rattle.std.specs.Ordering.{is_le, is_lt};
 ghost use Rattle.range_merge.specs.Boundaries.{member};
 
+use crate::changes::set_range;
 use crate::comparisons::Comparisons;
 use crate::questions::{has_all, has_some};
 use crate::range_set::RangeSet;
-use crate::range_set::splicing::set_range;
 use std::alloc::{AllocError, Global};
 use std::default::MadeWith;
 use std::ops::Range;

@@ -26,11 +26,11 @@ ghost use Rattle.range_collections.specs.Ranges.{range_boundaries, range_items, 
 ghost use Rattle.range_collections.specs.Unions.{GivesUnion};
 ghost use Rattle.range_collections.specs.declared.range_set_range.RangeSetRange.{RangeSetRange as Ranged};
 
+use crate::changes::Splice;
 use crate::comparisons::Comparisons;
 use crate::range_set::RangeSet;
 use crate::range_set::at_end::{cut_near_end, put_at_end, touches_end};
 use crate::range_set::joining::joined;
-use crate::range_set::splicing::splice;
 use crate::range_set_range::{RangeSetRange, has_elements};
 use range_entry::EntryClone;
 use range_merge::{Indexed, UnionOp};
@@ -404,5 +404,5 @@ fn put_within<T: Ord + MadeWith<Global> + Drop, const N: usize>(
 {
     let (from, start) = cut_near_end(list.as_slice(), start);
     let (to, end) = cut_near_end(list.as_slice(), end);
-    splice(list, from, to, start, end)
+    list.splice(from, to, start, end)
 }

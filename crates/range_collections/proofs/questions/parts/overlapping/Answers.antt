@@ -1,4 +1,4 @@
-use Rattle.std.proofs.Common.{◌≡◌, ◌≤◌, ◌∙◌, sym, ap, false, arith}
+use Rattle.std.proofs.Common.{◌≡◌, ◌≤◌, sym, ap, false, arith}
 use Rattle.std.specs.Ordering.{is_lt}
 use Rattle.std.specs.declared.cmp.Ordering.TheVariants.{Less}
 use Rattle.range_collections.specs.Ranges.{ranges_of}

@@ -1,4 +1,4 @@
-use Rattle.std.proofs.Common.{◌≡◌, refl, false, length, arith, rules}
+use Rattle.std.proofs.Common.{◌≡◌, refl, false, arith}
 use Rattle.std.specs.Ordering.{is_lt}
 use Rattle.std.specs.declared.cmp.Ordering.TheVariants.{Less}
 use Rattle.range_collections.proofs.Parts.{GivesParts-nothing, GivesParts-borrowed, is_even-borrowed}

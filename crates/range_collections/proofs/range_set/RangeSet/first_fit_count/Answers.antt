@@ -5,3 +5,9 @@ returns-clause-least g c = rw (← c.as_ref.ensures.same) (c.first_fit_count.ens
 
 pub returns-clause-none : goal.returns-clause-none
 returns-clause-none g c = rw (← c.as_ref.ensures.same) (c.first_fit_count.ensures.none)
+
+pub returns-clause-first : goal.returns-clause-first
+returns-clause-first g c s e is some = rw (← c.as_ref.ensures.same) (c.first_fit_count.ensures.first s e is some)
+
+pub returns-clause-nothing : goal.returns-clause-nothing
+returns-clause-nothing g c s e is zero = c.first_fit_count.ensures.nothing s e is zero

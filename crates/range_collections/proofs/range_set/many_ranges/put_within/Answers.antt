@@ -12,8 +12,14 @@ splice-requires g c =
     let q : IsCut g.T.Ord.cmp true a c.args.end c.cut_near_end-to.result.0 c.cut_near_end-to.result.1 = rw c.as_slice-2.ensures at c.cut_near_end-to.ensures in (
       search rules,
       (
-        cuts_ordered g.met.T.Ord.total true a c.args.start c.args.end _ _ _ _ c.requires.sorted c.requires.less p q,
-        (q.within, same_parity g.met.T.Ord.total true a c.args.start c.args.end _ _ _ _ c.requires.sorted c.requires.less p q),
+        p.within,
+        (
+          q.within,
+          (
+            cuts_ordered g.met.T.Ord.total true a c.args.start c.args.end _ _ _ _ c.requires.sorted c.requires.less p q,
+            same_parity g.met.T.Ord.total true a c.args.start c.args.end _ _ _ _ c.requires.sorted c.requires.less p q,
+          ),
+        ),
       ),
     )
 
@@ -22,7 +28,7 @@ returns-clause-sorted g c =
     let a = c.args.list.now.items in
     let p : IsCut g.T.Ord.cmp true a c.args.start c.cut_near_end-from.result.0 c.cut_near_end-from.result.1 = rw c.as_slice.ensures at c.cut_near_end-from.ensures in
     let q : IsCut g.T.Ord.cmp true a c.args.end c.cut_near_end-to.result.0 c.cut_near_end-to.result.1 = rw c.as_slice-2.ensures at c.cut_near_end-to.ensures in
-    IsAscending-answer g.T.Ord.cmp c.splice.result c.splice.new.list.items _ a c.splice.ensures.items c.splice.ensures.unchanged
+    IsAscending-answer g.T.Ord.cmp c.splice.result c.splice.new.self.items _ a c.splice.ensures.items c.splice.ensures.unchanged
     (IsAscending-spliced g.met.T.Ord.total true a c.args.start c.args.end _ _ _ _ c.requires.sorted c.requires.less p q) c.requires.sorted
 
 pub returns-clause-means : goal.returns-clause-means

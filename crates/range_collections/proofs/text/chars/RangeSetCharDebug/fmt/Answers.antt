@@ -1,4 +1,4 @@
-use Rattle.std.proofs.Common.{◌≡◌, ◌∙◌, refl, sym, subst, ℕ, List, true}
+use Rattle.std.proofs.Common.{◌≡◌, refl, sym, subst, ℕ, List, true}
 use Rattle.std.proofs.lemmas.Grind.{put_three}
 use Rattle.std.specs.Char.{is_ascii}
 use Rattle.std.specs.Fmt.{WritesOnOk, debug_char}

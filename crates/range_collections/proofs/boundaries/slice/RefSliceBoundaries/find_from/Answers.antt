@@ -1,0 +1,7 @@
+use Rattle.range_collections.proofs.Changing.{finds}
+use Rattle.range_collections.proofs.boundaries.slice.RefSliceBoundaries.find_from.Goals as goal
+
+pub returns-clause-found : goal.returns-clause-found
+returns-clause-found g c =
+    finds g.T.Ord.cmp c.args.self.now.now c.args.value.now (λ i. i) c.search.result
+    c.search.ensures.found_within c.search.ensures.found c.search.ensures.missing_within c.search.ensures.missing_before c.search.ensures.missing_from

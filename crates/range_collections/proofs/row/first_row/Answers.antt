@@ -1,5 +1,0 @@
-use Rattle.std.proofs.Common.{refl}
-use Rattle.range_collections.proofs.row.first_row.Goals as goal
-
-pub returns-in-Stopped-clause-none : goal.returns-in-Stopped-clause-none
-returns-in-Stopped-clause-none g c = absurd (c.in-Stopped.ensures.whole refl)
