@@ -15,10 +15,10 @@ use Rattle.range_tracker.specs.declared.track_error.TrackError.{TrackError}
 use Rattle.range_tracker.specs.declared.track_error.TrackError.TheVariants.{TooMany, OutOfMemory}
 use Rattle.range_tracker.specs.Offsets.{Offsets, IsListOf, HasBoundaries, is_within}
 use Rattle.range_tracker.specs.Commands.{MayAnswer, after_command}
-use Rattle.range_tracker.specs.declared.command.Command.{Command}
+use Rattle.range_tracker.specs.declared.tracker.Command.{Command}
 use Rattle.range_tracker.proofs.OffsetsLemmas.{is_even-from_means, IsListOf-from_means, IsListOf-self, same_length}
 use Rattle.range_collections.proofs.Ascending.{IsAscending-nil}
-use Rattle.range_chunks.proofs.Changed.{cut-put, cut-none}
+use Rattle.range_collections.proofs.Changing.{cut-put, cut-none}
 use Rattle.range_chunked_tracker.specs.Tracking.{IsAllOrNone, IsTracking, IsSetWithin}
 
 pub two-from_even : (n : ℕ) → is_odd n ≡ false → 0 < n → 2 ≤ n

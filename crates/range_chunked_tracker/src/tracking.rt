@@ -9,7 +9,7 @@ ghost use Rattle.range_collections.specs.Splicing.{spliced};
 ghost use Rattle.range_list.specs.Lists.{joined, place_at, IsPlaceAt};
 ghost use Rattle.range_chunked_tracker.specs.Tracking.{IsTracking, IsSetWithin};
 
-use range_chunks::boundaries::{cut_at, splice};
+use range_chunks::boundaries::{Splice, cut_at};
 use range_collections::Comparisons;
 use range_list::{Chunks, FRONT, Itself, Place};
 use range_tracker::{TrackError, within_limit};
@@ -81,14 +81,14 @@ fn set_between(
     ensures sorted { IsAscending nat_cmp (joined list.new) }
 {
     let count = &mut Comparisons::new();
-    let (from, start) = cut_at(list, range.start, inside, count);
-    let (to, end) = cut_at(list, range.end, inside, count);
+    let (from, start) = cut_at(&*list, range.start, inside, count);
+    let (to, end) = cut_at(&*list, range.end, inside, count);
     let boundaries = len_spliced(list, len, from, to, start, end);
     within_limit(boundaries, limit)?;
     if boundaries == 0 {
         keep_range(list, range);
     } else {
-        splice(list, from, to, start, end)?;
+        Splice::splice(list, from, to, start, end)?;
     }
     Ok(boundaries)
 }

@@ -18,7 +18,7 @@ use Rattle.range_merge.specs.Boundaries.{member}
 use Rattle.range_merge.specs.Connective.{differ}
 use Rattle.range_merge.proofs.Orders.{Equal-self}
 use Rattle.range_merge.proofs.Members.{member-cons, member-nil}
-use Rattle.range_collections.specs.Fits.{IsOneOf, IsRow}
+use Rattle.range_collections.specs.Fits.{IsOneOf, IsFit}
 use Rattle.range_collections.specs.declared.countable.multiples.Multiples.{Multiples}
 use Rattle.range_collections.proofs.Counted.{Greater-value}
 use Rattle.range_collections.proofs.NextMultiple.{IsOneOf-among}
@@ -106,8 +106,8 @@ module _ {K : Type 0} {order : K → K → Ordering} (o : IsTotalOrder order) (i
 
   -- a bound whose end is taken
   pub IsBound-noted : (items : List K) (b : GapBound K) → is_value b.end → place b.start ≤ place b.end →
-      ((n at : ℕ) → IsRow order value false items (place b.start) (place b.end) n at → n ≤ b.most) →
-      ((at : ℕ) → IsOneOf b.multiples at → IsRow order value false items (place b.start) (place b.end) b.count at → ⊥) →
+      ((n at : ℕ) → IsFit order value false items (place b.start) (place b.end) n at → n ≤ b.most) →
+      ((at : ℕ) → IsOneOf b.multiples at → IsFit order value false items (place b.start) (place b.end) b.count at → ⊥) →
       member order items b.end ≡ true →
       IsBound order value place count items b
   IsBound-noted items b v up most aligned taken = record {
@@ -130,18 +130,18 @@ module _ {K : Type 0} {order : K → K → Ordering} (o : IsTotalOrder order) (i
   pub IsBound-more : (old new : List K) (f : K → Bool) → ((x : K) → member order new x ≡ (member order old x || f x)) →
       (b : GapBound K) → IsBound order value place count old b → IsBound order value place count new b
   IsBound-more old new f members b it = record {
-    most = λ n at row. it.most n at (before n at row);
-    aligned = λ at even row. it.aligned at even (before b.count at row);
+    most = λ n at fit. it.most n at (before n at fit);
+    aligned = λ at even fit. it.aligned at even (before b.count at fit);
     closed = members (value (place b.end)) ∙ or-true (member order old (value (place b.end))) (f (value (place b.end))) it.closed;
     ordered = it.ordered;
     within = it.within;
   }
     where
-      before : (n at : ℕ) → IsRow order value false new (place b.start) (place b.end) n at → IsRow order value false old (place b.start) (place b.end) n at
-      before n at row = record {
-        from = row.from;
-        up_to = row.up_to;
-        alike = λ k a z. or-false (member order old (value k)) (f (value k)) (sym (members (value k)) ∙ row.alike k a z);
+      before : (n at : ℕ) → IsFit order value false new (place b.start) (place b.end) n at → IsFit order value false old (place b.start) (place b.end) n at
+      before n at fit = record {
+        from = fit.from;
+        up_to = fit.up_to;
+        alike = λ k a z. or-false (member order old (value k)) (f (value k)) (sym (members (value k)) ∙ fit.alike k a z);
       }
 
   module _ (old new : List K) (s e : K) (v : is_value s) (w : is_value e)
@@ -172,8 +172,8 @@ module _ {K : Type 0} {order : K → K → Ordering} (o : IsTotalOrder order) (i
     -- a set that frees values has the bounds that speak of none of them
     pub IsBound-less : (b : GapBound K) → IsBound order value place count old b → is_apart place (place s) (place e) b ≡ true → IsBound order value place count new b
     IsBound-less b it apart = record {
-      most = λ n at row. it.most n at (before n at row);
-      aligned = λ at even row. it.aligned at even (before b.count at row);
+      most = λ n at fit. it.most n at (before n at fit);
+      aligned = λ at even fit. it.aligned at even (before b.count at fit);
       closed = same (place b.end) it.ordered (omega arith) ∙ it.closed;
       ordered = it.ordered;
       within = it.within;
@@ -193,11 +193,11 @@ module _ {K : Type 0} {order : K → K → Ordering} (o : IsTotalOrder order) (i
                   above k (omega (arith, z, it.within)) (omega (arith, after, a))
             ]
 
-        before : (n at : ℕ) → IsRow order value false new (place b.start) (place b.end) n at → IsRow order value false old (place b.start) (place b.end) n at
-        before n at row = record {
-          from = row.from;
-          up_to = row.up_to;
-          alike = λ k a z. sym (same k (omega (arith, row.from, a)) (omega (arith, row.up_to, z))) ∙ row.alike k a z;
+        before : (n at : ℕ) → IsFit order value false new (place b.start) (place b.end) n at → IsFit order value false old (place b.start) (place b.end) n at
+        before n at fit = record {
+          from = fit.from;
+          up_to = fit.up_to;
+          alike = λ k a z. sym (same k (omega (arith, fit.from, a)) (omega (arith, fit.up_to, z))) ∙ fit.alike k a z;
         }
 
   -- `n` values in a row don't begin before the end of a bound that excludes them
@@ -205,28 +205,28 @@ module _ {K : Type 0} {order : K → K → Ordering} (o : IsTotalOrder order) (i
       place b.start ≤ place from → place from < place b.end → IsPast order value place items from end n m b.end
   IsPast-known items b it from end n m low a z = record { past = z; above = above_it }
     where
-      none_inside : (at : ℕ) → IsOneOf m at → IsRow order value false items (place b.start) (place b.end) n at → ⊥
-      none_inside at even row = by_most (nat_lt b.most n) refl
+      none_inside : (at : ℕ) → IsOneOf m at → IsFit order value false items (place b.start) (place b.end) n at → ⊥
+      none_inside at even fit = by_most (nat_lt b.most n) refl
         where
           by_most : (t : Bool) → nat_lt b.most n ≡ t → ⊥
           by_most true e =
               let more : b.most < n = grind (arith, nat_tests) in
-              omega (arith, more, it.most n at row)
+              omega (arith, more, it.most n at fit)
           by_most false e =
               let among = are_among m b.multiples in
               let both = and-true (nat_le b.count n) among (ap (λ t. t || (nat_le b.count n && among)) (sym e) ∙ low) in
               let enough : nat_le b.count n ≡ true = both.0 in
               let fewer : b.count ≤ n = grind (arith, nat_tests) in
               it.aligned at (IsOneOf-among_others m b.multiples both.1 at even)
-              (record { from = row.from; up_to = omega (arith, row.up_to, fewer); alike = λ k f t. row.alike k f (omega (arith, t, fewer)) })
+              (record { from = fit.from; up_to = omega (arith, fit.up_to, fewer); alike = λ k f t. fit.alike k f (omega (arith, t, fewer)) })
 
-      above_it : (at : ℕ) → IsOneOf m at → IsRow order value false items (place from) (place end) n at → place b.end ≤ at
-      above_it at even row =
+      above_it : (at : ℕ) → IsOneOf m at → IsFit order value false items (place from) (place end) n at → place b.end ≤ at
+      above_it at even fit =
           elim (cases_lt at (place b.end)) as (λ _. place b.end ≤ at) [
             | inl before ↦
                 elim (cases_lt (place b.end) (at + n)) as (λ _. place b.end ≤ at) [
-                  | inl over ↦ absurd (true≢false (sym it.closed ∙ row.alike (place b.end) (omega (arith, before)) over))
-                  | inr inside ↦ absurd (none_inside at even (record { from = omega (arith, a, row.from); up_to = inside; alike = row.alike }))
+                  | inl over ↦ absurd (true≢false (sym it.closed ∙ fit.alike (place b.end) (omega (arith, before)) over))
+                  | inr inside ↦ absurd (none_inside at even (record { from = omega (arith, a, fit.from); up_to = inside; alike = fit.alike }))
                 ]
             | inr fine ↦ fine
           ]

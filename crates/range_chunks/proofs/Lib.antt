@@ -1,10 +1,9 @@
 pub mod InTurn
 pub mod PutInTurn
 pub mod OpenEnded
-pub mod Changed
 pub mod ToTheEnd
-pub mod Measured
-pub mod Popped
 pub mod Bounded
-pub mod Walked
+pub mod FitSearches
 pub mod Windowed
+pub mod Related
+pub mod Lengths

@@ -19,7 +19,7 @@ use Rattle.range_collections.proofs.Insertion.{IsAscending-append}
 use Rattle.range_collections.proofs.Shortest.{count_up_to-all, count_up_to-append, le-trans, Less-then_le}
 use Rattle.range_collections.proofs.Values.{IsAscending-one, member-one, not-not}
 use Rattle.range_chunks.specs.Several.{AreKeptAbove, IsSettledFrom}
-use Rattle.range_chunks.proofs.InTurn.{other_than_itself, Equal-both}
+use Rattle.range_collections.proofs.Settled.{other_than_itself, Equal-both}
 
 module _ {K : Type 0} {order : K → K → Ordering} (o : IsTotalOrder order) where
   module _ (inside : Bool) where

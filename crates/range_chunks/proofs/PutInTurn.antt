@@ -11,9 +11,10 @@ use Rattle.std.proofs.Math.Seq.{take-append_seam}
 use Rattle.range_list.proofs.Flat.{drop-add}
 use Rattle.range_merge.specs.Boundaries.{IsAscending, member}
 use Rattle.range_merge.proofs.Orders.{Equal-self}
-use Rattle.range_collections.specs.Splicing.{spliced}
-use Rattle.range_chunks.specs.Several.{AreKeptAbove, IsSettled, AreSettled, IsPutBetween, IsSet, IsPutAt, ArePutIn}
-use Rattle.range_chunks.proofs.InTurn.{get_or_same, not_both, cut_by_start, cut_by_end, IsSet-spliced, AreSettled-set, kept_more, outside_still, less_at}
+use Rattle.range_collections.specs.Splicing.{IsSet, IsSettled, spliced}
+use Rattle.range_chunks.specs.Several.{AreKeptAbove, AreSettled, IsPutBetween, IsPutAt, ArePutIn}
+use Rattle.range_collections.proofs.Settled.{not_both, IsSet-spliced}
+use Rattle.range_chunks.proofs.InTurn.{get_or_same, cut_by_start, cut_by_end, AreSettled-set, kept_more, outside_still, less_at}
 
 module _ {K : Type 0} {order : K → K → Ordering} (o : IsTotalOrder order) where
   -- ---- a range that was put is found and taken out

@@ -1,3 +1,5 @@
 pub mod Bounds
+pub mod Lengths
+pub mod Relating
 pub mod Several
 pub mod Window

@@ -1,10 +1,8 @@
 -- Several ranges set one by one in a list of boundaries; contracts of private functions use these words.
 --     IsGap order inside items start end n        the range makes the list longer: place n is where it goes
---     IsSettled order inside items start end      the range makes the list no longer
 --     IsSettledFrom order inside items start      the range from the start on makes the list no longer
 --     AreSettled order inside items that high     none of the first ranges of a list does
 --     IsPutBetween order inside items start end new   it was put there
---     IsSet order inside items start end new      the range was set, and what lies outside of it stays
 --     AreKeptAbove order that items new           boundaries above all of the other list's stay
 --     IsPutAt order that at items new             both ends of the range at an index were put at one place
 --     ArePutIn order that before indices items    so were those at some indices, the first index last
@@ -15,7 +13,7 @@ use Rattle.std.specs.declared.cmp.Ordering.{Ordering}
 use Rattle.std.specs.declared.cmp.Ordering.TheVariants.{Less}
 use Rattle.range_merge.specs.Boundaries.{IsAscending, is_odd, member}
 use Rattle.range_merge.specs.Connective.{Means}
-use Rattle.range_collections.specs.Splicing.{range_table, spliced}
+use Rattle.range_collections.specs.Splicing.{IsSettled, spliced}
 
 module _ {K : Type 0} (order : K → K → Ordering) (inside : Bool) where
   -- all items before place n are below the start, all from there on are above the end, and what lies
@@ -26,13 +24,6 @@ module _ {K : Type 0} (order : K → K → Ordering) (inside : Bool) where
     pub above : AllWithin (λ y. order end y ≡ Less) items n (length items)
     pub parity : is_odd n ≡ not inside
 
-  -- a boundary lies between the start and the end, or is one of them; or the start is a member
-  -- already, or is none where `inside` is false
-  abbrev pub IsSettled : List K → K → K → Type 0
-  IsSettled items start end =
-      ((y : K) × Contains items y × (is_le (order start y) ≡ true) × (is_le (order y end) ≡ true))
-      ⊎ (member order items start ≡ inside)
-
   -- a boundary is the start or lies above it; or the start is a member already, or is none where
   -- `inside` is false
   abbrev pub IsSettledFrom : List K → K → Type 0
@@ -42,19 +33,13 @@ module _ {K : Type 0} (order : K → K → Ordering) (inside : Bool) where
   -- that is so of the ranges before an index
   abbrev pub AreSettled : List K → List K → ℕ → Type 0
   AreSettled items that high =
-      (n : ℕ) (d : K) → n < high → IsSettled items (get_or that (2 * n) d) (get_or that (2 * n + 1) d)
+      (n : ℕ) (d : K) → n < high → IsSettled order inside items (get_or that (2 * n) d) (get_or that (2 * n + 1) d)
 
   -- both ends of a range were put at one place of the items, which makes them longer
   pub record IsPutBetween (items : List K) (start end : K) (new : List K) : Type 0 where
     pub place : ℕ
     pub gap : IsGap items start end place
     pub put : new ≡ spliced items place place (Some start) (Some end)
-
-  -- a range was set: an element of it is a member exactly if `inside`, and boundaries that lie below it
-  -- or above it stay
-  pub record IsSet (items : List K) (start end : K) (new : List K) : Type 0 where
-    pub means : Means order (range_table inside) new items (start ∷ end ∷ [])
-    pub kept : All (λ y. (order y start ≡ Less) ⊎ (order end y ≡ Less) → Contains new y) items
 
 module _ {K : Type 0} (order : K → K → Ordering) (that : List K) where
   -- boundaries above all of the other list's stay

@@ -2,21 +2,23 @@
 //! so a change moves those of one chunk, and now and then the list of chunks.
 #![tactic(auto)]
 
+mod any_set;
 pub mod boundaries;
-mod cutting;
+mod counting;
 mod gap_bound;
 mod iter;
 mod merging;
+mod relating;
 mod set;
 mod several;
 mod space;
-mod taking;
 mod text;
 mod to_the_end;
 mod values;
 mod window;
 mod within;
 
+pub use any_set::AnySet;
 pub use iter::Iter;
 pub use set::ChunkedRangeSet;
 pub use space::ChunkedSpace;

@@ -16,6 +16,7 @@ mod making;
 mod many_ranges;
 mod members;
 mod ranges;
+mod relations;
 mod several;
 mod taking;
 

@@ -6,13 +6,13 @@ ghost use Rattle.std.specs.Prelude.{◌≡◌, ◌≤◌, ◌+◌, ◌*◌, ◌<
 ghost use Rattle.std.specs.declared.cmp.Ordering.TheVariants.{Less};
 ghost use Rattle.range_merge.specs.Boundaries.{IsAscending, is_odd as odd, member};
 ghost use Rattle.range_merge.specs.Connective.{Means};
-ghost use Rattle.range_collections.specs.Splicing.{range_table, spliced};
+ghost use Rattle.range_collections.specs.Splicing.{IsSettled, range_table, spliced};
 ghost use Rattle.range_list.specs.Lists.{joined, place_at, IsPlaceAt};
-ghost use Rattle.range_chunks.specs.Several.{IsGap, IsSettled, IsSettledFrom, AreKeptAbove, AreSettled, IsPutBetween, IsPutAt, ArePutIn};
+ghost use Rattle.range_chunks.specs.Several.{IsGap, IsSettledFrom, AreKeptAbove, AreSettled, IsPutBetween, IsPutAt, ArePutIn};
 
-use crate::cutting::{set_between, splice};
 use crate::to_the_end::set_from;
-use range_collections::Comparisons;
+use range_collections::changes::set_between;
+use range_collections::{Comparisons, Splice};
 use range_list::{Chunks, Itself, Place};
 use std::alloc::AllocError;
 
@@ -172,7 +172,7 @@ fn put_if_longer<T: Ord + Copy>(
         return Ok(());
     };
     put.reserve(1)?;
-    splice(list, place, place, Some(start), Some(end))?;
+    Splice::splice(list, place, place, Some(start), Some(end))?;
     put.push_reserved(at);
     Ok(())
 }
@@ -221,7 +221,7 @@ fn take_out_at<T: Ord + Drop>(list: &mut Chunks<T, bool>, that: &[T], at: usize)
 {
     let from = list.place_below(&Itself, &that[at], &mut Comparisons::new());
     let to = list.place_after(list.place_after(from));
-    let _taken = splice(list, from, to, None, None);
+    let _taken = Splice::splice(list, from, to, None, None);
 }
 
 // Sets ranges that make the list no longer, which takes no memory.

@@ -9,8 +9,8 @@ ghost use Rattle.range_collections.specs.Splicing.{range_table};
 ghost use Rattle.range_list.specs.Lists.{joined};
 ghost use Rattle.range_chunks.specs.Several.{IsSettledFrom};
 
-use crate::cutting::cut_at;
 use range_collections::Comparisons;
+use range_collections::changes::cut_at;
 use range_list::Chunks;
 use std::alloc::AllocError;
 
@@ -32,6 +32,6 @@ pub fn set_from<T: Ord + Drop>(
     ensures comparisons { AddsAtMost count.old count.new
         (digits (length (joined list.old)) + digits 512) }
 {
-    let (at, start) = cut_at(list, start, inside, count);
+    let (at, start) = cut_at(&*list, start, inside, count);
     list.replace_from(at, start)
 }

@@ -8,8 +8,8 @@ ghost use Rattle.range_collections.specs.Ranges.{ranges_of};
 ghost use Rattle.range_collections.specs.Within.{GivesParts, borrowed_items, with_end, within_table};
 ghost use Rattle.range_list.specs.Lists.{joined};
 
+use range_collections::Comparisons;
 use range_collections::questions::{self, Within, take_first};
-use range_collections::{Comparisons, EndedRanges};
 use range_list::{Chunks, Items};
 use std::alloc::{AllocError, Global};
 use std::iter::FusedIterator;
@@ -68,16 +68,6 @@ impl<'a, T> Iterator for RangesWithin<'a, T> {
 }
 
 impl<'a, T> FusedIterator for RangesWithin<'a, T> {}
-
-impl<'a, T: Copy> EndedRanges<T> for RangesWithin<'a, T> {
-    ghost boundaries = { λ it. it };
-
-    #[inline(always)]
-    fn next_range(&mut self) -> Option<Range<T>> {
-        let range = self.next()?;
-        Some(*range.start..*range.end)
-    }
-}
 
 /// The parts of `within` whose elements are members where `inside` is true, or else no members.
 pub fn parts_within<'a, T: Ord>(

@@ -10,7 +10,7 @@ use Rattle.std.specs.Str.{all_ascii_digits, is_utf8}
 use Rattle.std.specs.Str.Parse.{digits_value}
 use Rattle.std.specs.Borrow.{Bor}
 use Rattle.std.specs.declared.ops.Range.{Range}
-use Rattle.range_tracker.specs.declared.command.Command.TheVariants.{Add, Forget}
+use Rattle.range_tracker.specs.declared.tracker.Command.TheVariants.{Add, Forget}
 use Rattle.range_track_answers.specs.declared.request.Request.{Request}
 use Rattle.range_track_answers.specs.declared.request.Request.TheVariants.{Do, Has, Missing, Ranges}
 

@@ -3,14 +3,11 @@
 #![tactic(auto)]
 
 mod answering;
-mod limit;
 mod line;
-mod numbers;
 mod request;
-mod serving;
 mod status;
 mod writing;
 
-pub use limit::limit_asked;
-pub use serving::serve;
+pub use answering::serve;
+pub use request::limit_asked;
 pub use status::Status;

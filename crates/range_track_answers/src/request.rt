@@ -1,8 +1,8 @@
-//! What a line asks. It is read without memory.
-ghost use Rattle.std.specs.Prelude.{◌≡◌, [], ◌∷◌};
-ghost use Rattle.range_track_answers.specs.Requests.{request_of, asked_by, words_of, words_after};
+//! What a line asks, and the limit that the arguments ask for. Both are read without memory.
+ghost use Rattle.std.specs.Prelude.{◌≡◌, [], ◌∷◌, ◌-◌, ◌≤◌, IfSome};
+ghost use Rattle.range_track_answers.specs.Requests.{request_of, asked_by, words_of, words_after, number_of, is_numeral};
+ghost use Rattle.range_track_answers.specs.Limit.{limit_of, texts};
 
-use crate::numbers::number;
 use range_tracker::Command;
 use std::ops::Range;
 use std::str;
@@ -109,5 +109,55 @@ fn of_range(word: &str, start: &str, end: &str) -> Option<Request>
         "-" => Some(Request::Do(Command::Forget(start..end))),
         "?" => Some(Request::Has(start..end)),
         _ => None,
+    }
+}
+
+/// The most boundaries that there may be where no argument says so.
+const USUAL_LIMIT: usize = 1_000_000;
+
+/// The limit that the arguments ask for, if they are none or one number that leaves room for two
+/// more.
+pub fn limit_asked(words: &[String]) -> Option<usize>
+    ensures value { result ≡ limit_of (texts words.now) }
+    ensures within { IfSome result (λ limit. limit ≤ usize.MAX - 2) }
+{
+    match words.len() {
+        0 => Some(USUAL_LIMIT),
+        1 => limit_written(words[0].as_str()),
+        _ => None,
+    }
+}
+
+/// The limit that the word writes, if it writes one.
+fn limit_written(word: &str) -> Option<usize>
+    ensures value { result ≡ limit_of (word.now ∷ []) }
+    ensures within { IfSome result (λ limit. limit ≤ usize.MAX - 2) }
+{
+    let limit = number(word)?;
+    if limit <= u64::MAX - 2 {
+        Some(limit as usize)
+    } else {
+        None
+    }
+}
+
+/// The number of u64 that the word writes in 1 to 20 digits, if it writes one.
+pub fn number(word: &str) -> Option<u64>
+    ensures { result ≡ number_of word.now }
+{
+    if is_numeral(word) {
+        word.parse::<u64>().ok()
+    } else {
+        None
+    }
+}
+
+/// Whether the word is 1 to 20 digits.
+fn is_numeral(word: &str) -> bool
+    ensures { result ≡ is_numeral word.now }
+{
+    match word.len() {
+        1..=20 => word.bytes().all(|byte| byte.is_ascii_digit()),
+        _ => false,
     }
 }

@@ -10,10 +10,10 @@ ghost use Rattle.range_collections.specs.Extent.{HasAllWithin};
 ghost use Rattle.range_collections.specs.Insertion.{IsChangedByRange};
 ghost use Rattle.range_collections.specs.Ranges.{range_items};
 
-use crate::cutting::set_range;
 use crate::set::ChunkedRangeSet;
 use crate::to_the_end::set_from;
 use range_collections::Comparisons;
+use range_collections::changes::set_range;
 use range_collections::questions::{contains, has_all};
 use std::alloc::AllocError;
 use std::ops::{Range, RangeFrom};

@@ -48,7 +48,7 @@ impl<T: FromPlace> ChunkedRangeSet<T> {
 
     /// The member with `k` members below it, or `None` if there are no more than `k`.
     ///
-    /// It looks at each boundary up to the answer once, and takes no memory.
+    /// It looks at each boundary up to the result once, and takes no memory.
     pub fn select(&self, k: u128) -> Option<T>
         ensures value { IfSome result T.is_value }
         ensures member { IfSome result (λ at. member T.cmp self.now at ≡ true) }

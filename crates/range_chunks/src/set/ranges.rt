@@ -3,7 +3,7 @@
 ghost use Rattle.std.specs.Prelude.{◌≡◌, ◌↔◌, ◌^◌, ◌-◌, ◌<◌, ◌&&◌, not, [], Some, None, true, filter, length, Contains, IsTrue, IsSome, IfSome, MatchOption, slice_get};
 ghost use Rattle.std.specs.List.{last_or};
 ghost use Rattle.std.specs.Ordering.{is_le, is_lt};
-ghost use Rattle.range_merge.specs.Boundaries.{member};
+ghost use Rattle.range_merge.specs.Boundaries.{IsAscending, member};
 ghost use Rattle.range_merge.specs.Connective.{intersection_table, difference_table};
 ghost use Rattle.range_collections.specs.Covered.{covered_of};
 ghost use Rattle.range_collections.specs.Extent.{IsSpan};
@@ -11,6 +11,7 @@ ghost use Rattle.range_collections.specs.Overlapping.{overlaps};
 ghost use Rattle.range_collections.specs.Ranges.{ranges_of, range_now, range_start, IsInRange};
 ghost use Rattle.range_collections.specs.Values.{IsEverything};
 ghost use Rattle.range_collections.specs.Within.{GivesParts};
+ghost use Rattle.range_list.specs.Lists.{joined};
 
 use crate::iter::Iter;
 use crate::set::ChunkedRangeSet;
@@ -18,10 +19,18 @@ use crate::values::count_members;
 use crate::within::{Gaps, RangesWithin, parts_within};
 use range_collections::questions::{is_all, overlapping, range_at};
 use range_collections::{Comparisons, Countable, RangeSetEntry, RangeSetRange};
-use range_list::Items;
+use range_list::{Chunks, Items};
 use std::ops::{Range, RangeFrom};
 
 impl<T: Ord> ChunkedRangeSet<T> {
+    // The list of the boundaries.
+    pub(crate) fn chunks(&self) -> &Chunks<T, bool>
+        ensures boundaries { joined result.now ≡ self.now }
+        ensures sorted { IsAscending T.cmp (joined result.now) }
+    {
+        &self.list
+    }
+
     // The boundaries, from the first on.
     pub(crate) fn items(&self) -> Items<'_, T, bool>
         ensures { result ≡ self.now }

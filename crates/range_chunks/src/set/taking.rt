@@ -3,8 +3,8 @@ ghost use Rattle.std.specs.Prelude.{◌≡◌, ◌++◌, ◌∷◌, [], MatchOpt
 ghost use Rattle.range_collections.specs.Ranges.{ranges_of};
 
 use crate::set::ChunkedRangeSet;
-use crate::taking::{pop_first, pop_last};
 use range_collections::RangeSetRange;
+use range_collections::changes::{take_first_range, take_last_range};
 
 impl<T: Ord + Drop> ChunkedRangeSet<T> {
     /// Removes the first range and returns it, or `None` if the set is empty. It makes no comparison
@@ -13,7 +13,7 @@ impl<T: Ord + Drop> ChunkedRangeSet<T> {
         ensures range { MatchOption result ((self.old ≡ []) × (self.new ≡ []))
             (λ range. ranges_of self.old ≡ range ∷ ranges_of self.new) }
     {
-        pop_first(&mut self.list)
+        take_first_range(&mut self.list)
     }
 
     /// Removes the last range and returns it, or `None` if the set is empty. It makes no comparison
@@ -22,6 +22,6 @@ impl<T: Ord + Drop> ChunkedRangeSet<T> {
         ensures range { MatchOption result ((self.old ≡ []) × (self.new ≡ []))
             (λ range. ranges_of self.old ≡ ranges_of self.new ++ range ∷ []) }
     {
-        pop_last(&mut self.list)
+        take_last_range(&mut self.list)
     }
 }

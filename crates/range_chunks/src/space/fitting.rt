@@ -1,16 +1,18 @@
 //! The search for the first fit, which passes over gaps that are known to be too short.
-ghost use Rattle.std.specs.Prelude.{◌≡◌, ◌<◌, ◌≤◌, ◌+◌, ℕ, false, cond, Some, None, IfSome, IfNone};
+ghost use Rattle.std.specs.Prelude.{◌≡◌, ◌<◌, ◌≤◌, ◌+◌, ℕ, false, cond, IsTrue, Some, None, IfSome, IfNone};
 ghost use Rattle.std.specs.Ordering.{is_le};
 ghost use Rattle.range_merge.specs.Boundaries.{member};
-ghost use Rattle.range_collections.specs.Fits.{Fits, IsFirstRow, IsMultiple, IsOneOf, IsRow};
+ghost use Rattle.range_collections.specs.Fits.{Fits, IsFit, IsFromTo, IsLeastFit, IsMultiple, IsOneOf, place_after};
 ghost use Rattle.range_chunks.specs.Bounds.{IsBound, IsPast, IsStep};
 
 use crate::gap_bound::{GapBound, first_above, forget_wasted, stop_of};
 use crate::space::ChunkedSpace;
-use range_collections::{
-    Countable, FromPlace, Multiples, Row, RowWalk, Unsigned, Until, walk_to_row,
+use range_collections::questions::{
+    Fit, FitSearch, Until, first_aligned, first_alike, last_fit, parts_within, search_fit,
 };
-use std::ops::Range;
+use range_collections::{
+    Comparisons, Countable, FromPlace, Multiples, Unsigned, ValueEnds, ValueRange,
+};
 
 // How many gaps a bound is for at most.
 const GAPS: usize = 512;
@@ -19,7 +21,7 @@ const GAPS: usize = 512;
 #[derive(Drop)]
 pub enum SearchStep<T> {
     /// It fits there.
-    At(Row<T>),
+    At(Fit<T>),
     /// It fits nowhere below.
     From(T),
     /// It fits nowhere.
@@ -33,20 +35,20 @@ impl<T: Unsigned> ChunkedSpace<T> {
     /// What is taken stays as it is. It passes over some 512 gaps at a time where they are known
     /// to be too short, and reads the others once: what it learns of them stays until something
     /// is freed there. If there is no memory to remember it, only time is lost.
-    pub fn first_fit(&mut self, within: Range<T>, len: T) -> Option<T>
+    pub fn first_fit<R: ValueRange<T>>(&mut self, within: R, len: T) -> Option<T>
         ensures unchanged { self.new ≡ self.old }
-        ensures fits { IfSome result (Fits T.cmp T.place self.old within.start within.end len) }
+        ensures fits { IfSome result (Fits T.cmp T.place self.old (R.start within) (R.end within) len) }
         ensures free { IfSome result (λ at. (x : T) → T.place at ≤ T.place x →
             T.place x < T.place at + T.place len → member T.cmp self.old x ≡ false) }
         ensures least { IfSome result (λ x. (y : T) →
-            Fits T.cmp T.place self.old within.start within.end len y → T.place x ≤ T.place y) }
+            Fits T.cmp T.place self.old (R.start within) (R.end within) len y → T.place x ≤ T.place y) }
         ensures none { IfNone result ((x : T) →
-            ¬ (Fits T.cmp T.place self.old within.start within.end len x)) }
+            ¬ (Fits T.cmp T.place self.old (R.start within) (R.end within) len x)) }
     {
-        within.start.known();
-        within.end.known();
+        let range = within.ends();
+        range.end.known();
         len.known();
-        self.first_fit_count(within, len.place())
+        self.first_free(&range, len.place())
     }
 }
 
@@ -54,33 +56,81 @@ impl<T: Countable + Copy> ChunkedSpace<T> {
     /// The least value from which `count` values lie in the range and are free, or `None` if there
     /// is none. If `count` is 0, it is the start of the range, unless that is reversed. Else it is
     /// as `first_fit`.
-    pub fn first_fit_count(&mut self, within: Range<T>, count: u128) -> Option<T>
+    pub fn first_fit_count<R: ValueRange<T>>(&mut self, within: R, count: u128) -> Option<T>
         ensures unchanged { self.new ≡ self.old }
-        ensures fits { IfSome result (λ at. IsRow T.cmp T.value false self.old
-            (T.place within.start) (T.place within.end) count (T.place at)) }
-        ensures least { IfSome result (λ at. (n : ℕ) → IsRow T.cmp T.value false self.old
-            (T.place within.start) (T.place within.end) count n → T.place at ≤ n) }
-        ensures none { IfNone result ((n : ℕ) → ¬ (IsRow T.cmp T.value false self.old
-            (T.place within.start) (T.place within.end) count n)) }
-        ensures nothing { count ≡ 0 →
-            result ≡ cond (is_le (T.cmp within.start within.end)) (Some within.start) None }
+        ensures fits { IfSome result (λ at. IsFit T.cmp T.value false self.old
+            (R.start within) (R.end within) count (T.place at)) }
+        ensures least { IfSome result (λ at. (n : ℕ) → IsFit T.cmp T.value false self.old
+            (R.start within) (R.end within) count n → T.place at ≤ n) }
+        ensures none { IfNone result ((n : ℕ) → ¬ (IsFit T.cmp T.value false self.old
+            (R.start within) (R.end within) count n)) }
+        ensures nothing { (s e : T) → R.is_from_to within s e → count ≡ 0 →
+            result ≡ cond (is_le (T.cmp s e)) (Some s) None }
     {
-        if count == 0 {
-            return self.taken.first_fit_count_unchanged(within, 0);
-        }
-        let Range { start, end } = within;
-        let row = self.first_row(start, end, count, Multiples::of_one())?;
-        Some(row.start)
+        let range = within.ends();
+        self.first_free(&range, count)
     }
 
-    // The first `count` values in a row that are free from one of the multiples on.
-    fn first_row(&mut self, start: T, end: T, count: u128, multiples: Multiples) -> Option<Row<T>>
+    // The least value from which `count` values lie between the ends and are free.
+    fn first_free(&mut self, ends: &ValueEnds<T>, count: u128) -> Option<T>
+        requires closed { IsTrue ends.now.closed → T.place ends.now.end + 1 ≡ T.count }
+        ensures unchanged { self.new ≡ self.old }
+        ensures fits { IfSome result (λ at. IsFit T.cmp T.value false self.old
+            (T.place ends.now.start) (place_after T.place ends.now) count (T.place at)) }
+        ensures least { IfSome result (λ at. (n : ℕ) → IsFit T.cmp T.value false self.old
+            (T.place ends.now.start) (place_after T.place ends.now) count n → T.place at ≤ n) }
+        ensures none { IfNone result ((n : ℕ) → ¬ (IsFit T.cmp T.value false self.old
+            (T.place ends.now.start) (place_after T.place ends.now) count n)) }
+        ensures nothing { (s e : T) → IsFromTo ends.now s e → count ≡ 0 →
+            result ≡ cond (is_le (T.cmp s e)) (Some s) None }
+    {
+        if count == 0 {
+            return first_alike(self.taken.boundaries(), ends, false, 0);
+        }
+        let fit = self.first_fit_in(ends, count, Multiples::of_one())?;
+        Some(fit.start)
+    }
+
+    // The first `count` values in a row between the ends that are free from one of the multiples on.
+    fn first_fit_in(
+        &mut self,
+        ends: &ValueEnds<T>,
+        count: u128,
+        multiples: Multiples,
+    ) -> Option<Fit<T>>
+        requires closed { IsTrue ends.now.closed → T.place ends.now.end + 1 ≡ T.count }
+        requires some { 0 < count }
+        requires aligned { 0 < multiples.of }
+        ensures unchanged { self.new ≡ self.old }
+        ensures first { IfSome result (IsLeastFit T.cmp T.value T.place false self.old
+            (T.place ends.now.start) (place_after T.place ends.now) count multiples) }
+        ensures none { IfNone result ((n : ℕ) → IsOneOf multiples n → ¬ (IsFit T.cmp T.value false self.old
+            (T.place ends.now.start) (place_after T.place ends.now) count n)) }
+    {
+        if let Some(fit) = self.first_fit_between(ends.start, ends.end, count, multiples) {
+            return Some(fit);
+        }
+        if !ends.closed {
+            return None;
+        }
+        let list = self.taken.boundaries();
+        last_fit(list, &ends.start, &ends.end, false, count, multiples)
+    }
+
+    // The same from a value to below another.
+    fn first_fit_between(
+        &mut self,
+        start: T,
+        end: T,
+        count: u128,
+        multiples: Multiples,
+    ) -> Option<Fit<T>>
         requires some { 0 < count }
         requires aligned { 0 < multiples.of }
         ensures unchanged { self.new ≡ self.old }
         ensures first { IfSome result
-            (IsFirstRow T.cmp T.value T.place false self.old (T.place start) (T.place end) count multiples) }
-        ensures none { IfNone result ((n : ℕ) → IsOneOf multiples n → ¬ (IsRow T.cmp T.value false self.old
+            (IsLeastFit T.cmp T.value T.place false self.old (T.place start) (T.place end) count multiples) }
+        ensures none { IfNone result ((n : ℕ) → IsOneOf multiples n → ¬ (IsFit T.cmp T.value false self.old
             (T.place start) (T.place end) count n)) }
     {
         self.forget_wasted();
@@ -89,7 +139,7 @@ impl<T: Countable + Copy> ChunkedSpace<T> {
         while from.place() < end.place() {
             at = first_above(self.bounds.as_slice(), at, from.place());
             match self.step(at, from, end, count, multiples) {
-                SearchStep::At(row) => return Some(row),
+                SearchStep::At(fit) => return Some(fit),
                 SearchStep::From(next) => from = next,
                 SearchStep::Nowhere => return None,
             }
@@ -124,12 +174,14 @@ impl<T: Countable + Copy> ChunkedSpace<T> {
         from.known();
         end.known();
         let until = Until {
-            ranges: GAPS,
+            parts: GAPS,
             place: stop_of(self.bounds.as_slice(), at, from.place()),
         };
-        match walk_to_row(self.taken.gaps(&from..&end), count, multiples, Some(until)) {
-            RowWalk::Found(row) => SearchStep::At(row),
-            RowWalk::Stopped { end: next, most } => {
+        let list = self.taken.boundaries();
+        let gaps = parts_within(list, &from..&end, false, &mut Comparisons::new());
+        match search_fit(gaps, count, multiples, Some(until)) {
+            FitSearch::Found(fit) => SearchStep::At(fit),
+            FitSearch::Stopped { end: next, most } => {
                 let bound = GapBound {
                     start: from,
                     end: next,
@@ -140,7 +192,7 @@ impl<T: Countable + Copy> ChunkedSpace<T> {
                 self.note(at, bound);
                 SearchStep::From(next)
             }
-            RowWalk::End => SearchStep::Nowhere,
+            FitSearch::End => SearchStep::Nowhere,
         }
     }
 
@@ -160,9 +212,9 @@ impl<T: Countable + Copy> ChunkedSpace<T> {
     // Remembers what is known of the gaps between two values, if the second is a member.
     fn note(&mut self, at: usize, bound: GapBound<T>)
         requires ordered { T.place bound.start ≤ T.place bound.end }
-        requires most { (n k : ℕ) → IsRow T.cmp T.value false self.old
+        requires most { (n k : ℕ) → IsFit T.cmp T.value false self.old
             (T.place bound.start) (T.place bound.end) n k → n ≤ bound.most }
-        requires aligned { (k : ℕ) → IsOneOf bound.multiples k → ¬ (IsRow T.cmp T.value false self.old
+        requires aligned { (k : ℕ) → IsOneOf bound.multiples k → ¬ (IsFit T.cmp T.value false self.old
             (T.place bound.start) (T.place bound.end) bound.count k) }
         ensures { self.new ≡ self.old }
     {
@@ -197,44 +249,68 @@ impl<T: FromPlace> ChunkedSpace<T> {
     /// if there is none, or if `align` is 0. The number of a `char` is its place. Else it is as
     /// `first_fit`, but of gaps that are long enough it remembers only for the last `align` that
     /// none has such a value.
-    pub fn first_fit_aligned(&mut self, within: Range<T>, count: u128, align: u128) -> Option<T>
+    pub fn first_fit_aligned<R: ValueRange<T>>(
+        &mut self,
+        within: R,
+        count: u128,
+        align: u128,
+    ) -> Option<T>
         ensures unchanged { self.new ≡ self.old }
-        ensures fits { IfSome result (λ at. IsRow T.cmp T.value false self.old
-            (T.place within.start) (T.place within.end) count (T.place at)) }
+        ensures fits { IfSome result (λ at. IsFit T.cmp T.value false self.old
+            (R.start within) (R.end within) count (T.place at)) }
         ensures aligned { IfSome result (λ at. IsMultiple T.zero align (T.place at)) }
-        ensures least { IfSome result (λ at. (n : ℕ) → IsMultiple T.zero align n → IsRow T.cmp T.value false
-            self.old (T.place within.start) (T.place within.end) count n → T.place at ≤ n) }
-        ensures none { 0 < align → IfNone result ((n : ℕ) → IsMultiple T.zero align n →
-            ¬ (IsRow T.cmp T.value false self.old
-            (T.place within.start) (T.place within.end) count n)) }
+        ensures least { IfSome result (λ at. (n : ℕ) → IsMultiple T.zero align n → IsFit T.cmp T.value false
+            self.old (R.start within) (R.end within) count n → T.place at ≤ n) }
+        ensures none { 0 < align → IfNone result ((n : ℕ) → n < T.count → IsMultiple T.zero align n →
+            ¬ (IsFit T.cmp T.value false self.old (R.start within) (R.end within) count n)) }
+        ensures no_align { align ≡ 0 → result ≡ None }
+    {
+        let range = within.ends();
+        self.first_aligned_free(&range, count, align)
+    }
+
+    // The same between ends.
+    fn first_aligned_free(&mut self, ends: &ValueEnds<T>, count: u128, align: u128) -> Option<T>
+        requires closed { IsTrue ends.now.closed → T.place ends.now.end + 1 ≡ T.count }
+        ensures unchanged { self.new ≡ self.old }
+        ensures fits { IfSome result (λ at. IsFit T.cmp T.value false self.old
+            (T.place ends.now.start) (place_after T.place ends.now) count (T.place at)) }
+        ensures aligned { IfSome result (λ at. IsMultiple T.zero align (T.place at)) }
+        ensures least { IfSome result (λ at. (n : ℕ) → IsMultiple T.zero align n →
+            IsFit T.cmp T.value false self.old
+            (T.place ends.now.start) (place_after T.place ends.now) count n → T.place at ≤ n) }
+        ensures none { 0 < align → IfNone result ((n : ℕ) → n < T.count → IsMultiple T.zero align n →
+            ¬ (IsFit T.cmp T.value false self.old
+            (T.place ends.now.start) (place_after T.place ends.now) count n)) }
         ensures no_align { align ≡ 0 → result ≡ None }
     {
         if align == 0 {
             return None;
         }
         if count == 0 {
-            return self.taken.first_fit_aligned(within, 0, align);
+            return first_aligned(self.taken.boundaries(), ends, 0, align);
         }
-        T::from_place(self.first_aligned_place(within, count, align)?)
+        T::from_place(self.first_aligned_place(ends, count, align)?)
     }
 
     // The place of that value.
-    fn first_aligned_place(&mut self, within: Range<T>, count: u128, align: u128) -> Option<u128>
+    fn first_aligned_place(&mut self, ends: &ValueEnds<T>, count: u128, align: u128) -> Option<u128>
+        requires closed { IsTrue ends.now.closed → T.place ends.now.end + 1 ≡ T.count }
         requires some { 0 < count }
         requires aligned { 0 < align }
         ensures unchanged { self.new ≡ self.old }
-        ensures fits { IfSome result (IsRow T.cmp T.value false self.old
-            (T.place within.start) (T.place within.end) count) }
+        ensures fits { IfSome result (IsFit T.cmp T.value false self.old
+            (T.place ends.now.start) (place_after T.place ends.now) count) }
         ensures below { IfSome result (λ at. at < T.count) }
         ensures aligned { IfSome result (λ at. IsMultiple T.zero align at) }
-        ensures least { IfSome result (λ at. (n : ℕ) → IsMultiple T.zero align n → IsRow T.cmp T.value false
-            self.old (T.place within.start) (T.place within.end) count n → at ≤ n) }
-        ensures none { IfNone result ((n : ℕ) → IsMultiple T.zero align n → ¬ (IsRow T.cmp T.value false
-            self.old (T.place within.start) (T.place within.end) count n)) }
+        ensures least { IfSome result (λ at. (n : ℕ) → IsMultiple T.zero align n → IsFit T.cmp T.value false
+            self.old (T.place ends.now.start) (place_after T.place ends.now) count n → at ≤ n) }
+        ensures none { IfNone result ((n : ℕ) → n < T.count → IsMultiple T.zero align n →
+            ¬ (IsFit T.cmp T.value false self.old
+            (T.place ends.now.start) (place_after T.place ends.now) count n)) }
     {
-        let Range { start, end } = within;
-        end.known();
-        let row = self.first_row(start, end, count, Multiples::among::<T>(align))?;
-        Some(row.place)
+        ends.end.known();
+        let fit = self.first_fit_in(ends, count, Multiples::among::<T>(align))?;
+        Some(fit.place)
     }
 }

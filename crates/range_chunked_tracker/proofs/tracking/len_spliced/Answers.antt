@@ -1,7 +1,7 @@
 use Rattle.std.proofs.Common.{arith}
 use Rattle.range_list.specs.Lists.{joined, place_at}
 use Rattle.range_list.proofs.Placed.{place_at-within}
-use Rattle.range_chunks.proofs.Measured.{length-spliced}
+use Rattle.range_collections.proofs.Splices.{length-spliced}
 use Rattle.range_chunked_tracker.proofs.tracking.len_spliced.Goals as goal
 
 pub overflow_cast-result : goal.overflow_cast-result

@@ -1,4 +1,4 @@
-use Rattle.std.proofs.Common.{◌≡◌, ◌+◌, ◌≤◌, ◌∙◌, ap, None, length, arith}
+use Rattle.std.proofs.Common.{◌≡◌, ◌+◌, ◌≤◌, ◌∙◌, ap, None, length, arith, inl}
 use Rattle.std.proofs.lemmas.List.{map-id}
 use Rattle.range_collections.specs.Splicing.{spliced}
 use Rattle.range_list.specs.Lists.{joined, place_at}
@@ -32,4 +32,4 @@ returns g c = λ items it.
     taken_out g.met.T.Ord.total c.args.that.now c.args.at items (joined c.args.list.now) it (place_at c.args.list.now c.place_below-from.result) (place_at c.args.list.now c.place_after-to.result) here two in
     let fits : length (spliced (joined c.args.list.now) (place_at c.args.list.now c.place_below-from.result) (place_at c.args.list.now c.place_after-to.result) None None) ≤ length (joined c.args.list.now) =
     omega (arith, ap length out, two_longer g.met.T.Ord.total c.args.that.now c.args.at items (joined c.args.list.now) it) in
-    what_is_done c.splice-taken.result _ c.splice-taken.ensures.items (c.splice-taken.ensures.succeeds fits) ∙ out
+    what_is_done c.splice-taken.result _ c.splice-taken.ensures.items (c.splice-taken.ensures.succeeds (inl fits)) ∙ out

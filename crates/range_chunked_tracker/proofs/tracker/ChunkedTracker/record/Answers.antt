@@ -4,7 +4,7 @@ use Rattle.std.specs.Ordering.{nat_cmp}
 use Rattle.range_merge.specs.Connective.{union_table}
 use Rattle.range_collections.proofs.Cut.{IsAscending-take}
 use Rattle.range_collections.proofs.Insertion.{union-alike}
-use Rattle.range_tracker.specs.declared.command.Command.TheVariants.{Add}
+use Rattle.range_tracker.specs.declared.tracker.Command.TheVariants.{Add}
 use Rattle.range_list.specs.Lists.{joined}
 use Rattle.range_chunked_tracker.proofs.SetWithin.{MayAnswer-refused, MayAnswer-done, offsets-done, IsTracking-done, is_even-front}
 use Rattle.range_chunked_tracker.proofs.tracker.ChunkedTracker.record.Goals as goal

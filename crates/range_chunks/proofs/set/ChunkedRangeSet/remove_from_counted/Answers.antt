@@ -1,8 +1,9 @@
-use Rattle.std.proofs.Common.{sym, false}
+use Rattle.std.proofs.Common.{false}
 use Rattle.std.proofs.lemmas.Result.{on_ok_weaker}
 use Rattle.range_merge.specs.Connective.{difference_table}
 use Rattle.range_collections.specs.Splicing.{range_table}
-use Rattle.range_collections.proofs.Insertion.{Means-alike, difference-alike}
+use Rattle.range_collections.proofs.Changing.{changed-alike}
+use Rattle.range_collections.proofs.Insertion.{difference-alike}
 use Rattle.range_list.specs.Lists.{joined}
 use Rattle.range_chunks.proofs.ToTheEnd.{members-taken_from}
 use Rattle.range_chunks.proofs.set.ChunkedRangeSet.remove_from_counted.Goals as goal
@@ -10,13 +11,7 @@ use Rattle.range_chunks.proofs.set.ChunkedRangeSet.remove_from_counted.Goals as 
 pub returns-clause-changed : goal.returns-clause-changed
 returns-clause-changed g c =
     rw (← c.self.view_is)
-    (record {
-      means = on_ok_weaker c.set_from.result (Means-alike (range_table false) difference_table difference-alike (joined c.set_from.new.list) (joined c.self.inside.list) _) c.set_from.ensures.changed.means;
-      left_own_item = c.set_from.ensures.changed.left_own_item;
-      unchanged = c.set_from.ensures.changed.unchanged;
-      succeeds = λ items m few. c.set_from.ensures.changed.succeeds items (Means-alike difference_table (range_table false) (λ x y. sym (difference-alike x y)) items (joined c.self.inside.list) _ m) few;
-      empty = c.set_from.ensures.changed.empty;
-    })
+    (changed-alike g.T.Ord.cmp (range_table false) difference_table difference-alike 0 (joined c.self.inside.list) _ (joined c.set_from.new.list) c.set_from.result c.set_from.ensures.changed)
 
 pub returns-clause-members : goal.returns-clause-members
 returns-clause-members g c =

@@ -1,20 +1,13 @@
-use Rattle.std.proofs.Common.{sym, subst, false, arith}
-use Rattle.range_collections.proofs.NextMultiple.{each_multiple}
-use Rattle.range_collections.specs.Fits.{IsRow}
-use Rattle.range_collections.proofs.Previous.{IfNone-always}
 use Rattle.range_chunks.proofs.space.ChunkedSpace.first_fit_count.Goals as goal
 
-pub returns-then-count-eq0-clause-none : goal.returns-then-count-eq0-clause-none
-returns-then-count-eq0-clause-none g c = rw (← c.self.view_is) (rw c.if-count-eq0.true c.first_fit_count_unchanged.ensures.none)
-
-pub returns-in_err-row-clause-none : goal.returns-in_err-row-clause-none
-returns-in_err-row-clause-none g c = IfNone-always c.from_residual.result (λ n row. c.in_err-row.ensures.none n (each_multiple c.of_one.result c.of_one.ensures n) row)
-
 pub returns-clause-fits : goal.returns-clause-fits
-returns-clause-fits g c =
-    subst (IsRow g.T.Ord.cmp g.T.Countable.value false c.args.self.now (g.T.Countable.place c.args.within.start) (g.T.Countable.place c.args.within.end) c.args.count)
-    (sym (c.in_ok-row.ensures.first.begins c.of_one.ensures)) c.in_ok-row.ensures.first.row
+returns-clause-fits g c = rw (← c.ends-range.ensures.start, ← c.ends-range.ensures.end) (c.first_free.ensures.fits)
 
 pub returns-clause-least : goal.returns-clause-least
-returns-clause-least g c n row =
-    omega (arith, c.in_ok-row.ensures.first.least n (each_multiple c.of_one.result c.of_one.ensures n) row, c.in_ok-row.ensures.first.begins c.of_one.ensures)
+returns-clause-least g c = rw (← c.ends-range.ensures.start, ← c.ends-range.ensures.end) (c.first_free.ensures.least)
+
+pub returns-clause-none : goal.returns-clause-none
+returns-clause-none g c = rw (← c.ends-range.ensures.start, ← c.ends-range.ensures.end) (c.first_free.ensures.none)
+
+pub returns-clause-nothing : goal.returns-clause-nothing
+returns-clause-nothing g c s e is zero = c.first_free.ensures.nothing s e (c.ends-range.ensures.from_to s e is) zero
