@@ -24,3 +24,5 @@ pub mod Depths
 pub mod Overlapping
 pub mod GapsFound
 pub mod Windowed
+pub mod Nexts
+pub mod InSet

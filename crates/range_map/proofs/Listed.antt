@@ -1,5 +1,5 @@
 -- The steps of a list, and a map's keys and options.
-use Rattle.std.proofs.Common.{◌≡◌, sym, ap, ◌∙◌, refl, ℕ, zero, suc, ◌+◌, ◌^◌, ◌<◌, ◌≤◌, Bool, true, false, not, Option, Some, None, List, [], ◌∷◌, map, length, get_or, slice_get, option_copied, arith}
+use Rattle.std.proofs.Common.{◌≡◌, sym, ap, ◌∙◌, refl, ℕ, zero, suc, ◌+◌, ◌^◌, ◌<◌, ◌≤◌, Bool, true, false, not, Option, Some, None, List, [], ◌∷◌, ◌++◌, map, length, get_or, slice_get, option_copied, arith}
 use Rattle.std.specs.Option.{option_eq, is_some}
 use Rattle.std.specs.Borrow.{Bor}
 use Rattle.std.proofs.lemmas.List.{length-map}
@@ -128,3 +128,9 @@ pub step-option : {K V : Type 0} (items : List (Step K V)) (n : ℕ) (r : Option
 step-option [] n r s h e = let off : Some s ≡ None = sym e ∙ h in absurd (cc)
 step-option (x ∷ xs) zero r s h e = let same : Some x ≡ Some s = sym h ∙ e in ap (λ (t : Option (Step _ _)). opt-of t) (sym same)
 step-option (x ∷ xs) (suc n) r s h e = step-option xs n r s h e
+
+-- the last step of a list is the last one behind others
+pub last-behind : {K V : Type 0} (p : Option V) (front list : List (Step K V)) (n : ℕ) → suc n ≡ length list →
+    get_or (steps_of list).options n None ≡ get_or (p ∷ (steps_of (front ++ list)).options) (length (front ++ list)) None
+last-behind p [] list n e = ap (λ m. get_or (p ∷ (steps_of list).options) m None) e
+last-behind p (s ∷ front) list n e = last-behind s.option front list n e

@@ -6,8 +6,8 @@
 --     needs_end E end p after    whether one has to stand at the end
 --     ArePlaces ..               which steps lie in the range, and whether some stand at its ends
 --     Stands order xs n n2 k     k stands behind the keys before place n2, of which those from n on equal it
---     IsWindow order lists start end w    the window of a range
-use Rattle.std.specs.Prelude.{◌≡◌, ℕ, ◌+◌, ◌≤◌, Bool, true, false, not, cond, List, ◌∷◌, length, get_or, nat_lt, Option, Some, None}
+--     IsNext order lists ks i j n    the lowest key that is unread, and the places behind it
+use Rattle.std.specs.Prelude.{◌≡◌, ℕ, ◌+◌, ◌<◌, ◌≤◌, Bool, true, false, not, cond, List, ◌∷◌, length, get_or, nat_lt, Option, Some, None}
 use Rattle.std.specs.List.{AllWithin}
 use Rattle.std.specs.Option.{option_eq}
 use Rattle.std.specs.Ordering.{is_le}
@@ -18,7 +18,7 @@ use Rattle.range_map.specs.Steps.{Steps}
 use Rattle.range_map.specs.Listed.{steps_of, steps_in}
 use Rattle.range_map.specs.declared.step.Step.{Step}
 use Rattle.range_map.specs.declared.places.Places.{Places}
-use Rattle.range_map.specs.declared.places.Window.{Window}
+use Rattle.range_map.specs.declared.in_place.Next.{Next}
 use Rattle.range_list.specs.Lists.{place_at, IsPlaceAt}
 
 -- how many steps stand before the first one in the range, and before the first one behind it; whether
@@ -80,16 +80,6 @@ module _ {K : Type 0} (order : K → K → Ordering) where
     pub starts : span.starts ≡ not (option_eq E (get_or (None ∷ m.options) span.from None) p)
     pub ends : span.ends ≡ needs_end (option_eq E) end p (get_or (None ∷ m.options) span.to None)
 
-  -- below the end: all are, if there is none
-  abbrev pub IsBelowEnd : Option K → K → Type 0
-  IsBelowEnd None y = Unit {0}
-  IsBelowEnd (Some end) y = order y end ≡ Less
-
-  -- at or above the end, if there is one
-  abbrev pub IsFromEnd : Option K → K → Type 0
-  IsFromEnd None y = ⊥
-  IsFromEnd (Some end) y = is_le (order end y) ≡ true
-
   -- k stands behind the keys before place n2, of which those from n on are equal to it
   pub record Stands (xs : List K) (n n2 : ℕ) (k : K) : Type 0 where
     pub on : n ≤ n2
@@ -98,21 +88,14 @@ module _ {K : Type 0} (order : K → K → Ordering) where
     pub here : AllWithin (λ y. order y k ≡ Equal) xs n n2
     pub after : IsBelowFrom order xs n2 k
 
-  -- so does the end; if there is none, both places are behind all keys
-  abbrev pub StandsAtEnd : List K → ℕ → ℕ → Option K → Type 0
-  StandsAtEnd xs n n2 None = (n ≡ length xs) × (n2 ≡ length xs)
-  StandsAtEnd xs n n2 (Some end) = Stands xs n n2 end
-
-  -- the start stands between places `from` and `after`, and the end, if there is one, between `below`
-  -- and `to`
-  pub record IsWindow {V : Type 0} (lists : List (List (Step K V))) (start : K) (end : Option K)
-      (w : Window) : Type 0 where
-    pub from_place : IsPlaceAt lists w.from
-    pub after_place : IsPlaceAt lists w.after
-    pub below_place : IsPlaceAt lists w.below
-    pub to_place : IsPlaceAt lists w.to
-    pub at_start : Stands (steps_in lists).keys (place_at lists w.from) (place_at lists w.after) start
-    pub at_end : StandsAtEnd (steps_in lists).keys (place_at lists w.below) (place_at lists w.to) end
-    pub before : AllWithin (λ y. order y start ≡ Less) (steps_in lists).keys 0 (place_at lists w.from)
-    pub below : AllWithin (IsBelowEnd end) (steps_in lists).keys 0 (place_at lists w.below)
-    pub ordered : place_at lists w.after ≤ place_at lists w.below
+  -- n has the lowest of the keys from place i and from place j of the two lists on, of which it is
+  -- one, and the places behind it; the first list's keys before place `below` are below the other's
+  pub record IsNext {V : Type 0} (lists : List (List (Step K V))) (ks : List K) (i j : ℕ) (n : Next K) :
+      Type 0 where
+    pub at_place : IsPlaceAt lists n.at
+    pub below_place : IsPlaceAt lists n.below
+    pub ordered : place_at lists n.at ≤ place_at lists n.below
+    pub left : Stands (steps_in lists).keys i (place_at lists n.at) n.key.now
+    pub right : Stands ks j n.index n.key.now
+    pub onward : i + j < place_at lists n.at + n.index
+    pub left_below : AllWithin (IsBelowFrom order ks n.index) (steps_in lists).keys 0 (place_at lists n.below)

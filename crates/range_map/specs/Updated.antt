@@ -1,17 +1,12 @@
 -- What an update makes of a map.
 --     IsUpdated order E start end f a r    r has f of the option in the range, elsewhere what a has
 --     unit_on start end, if_some f         the map that has the unit on the range; f of an option where there is one
---     begun lists n items                  the steps before place n, and items behind them
---     IsPutLike order E old key q new      a step with an option like q was put at the end
 --     kept test p, kept_step test s        the option, but none where its value fails the test; a step with it
-use Rattle.std.specs.Prelude.{ℕ, Bool, cond, List, ◌∷◌, ◌++◌, map, take, Option, Some, None}
+use Rattle.std.specs.Prelude.{Bool, cond, ◌∷◌, map, Option, Some, None}
 use Rattle.std.specs.Option.{option_to_list, is_some}
 use Rattle.std.specs.declared.cmp.Ordering.{Ordering}
 use Rattle.range_map.specs.Steps.{Steps, value_at, AreAlike}
 use Rattle.range_map.specs.Changed.{is_in_range}
-use Rattle.range_map.specs.Combining.{IsPut}
-use Rattle.range_map.specs.Listed.{steps_of}
-use Rattle.range_list.specs.Lists.{joined}
 use Rattle.range_map.specs.declared.step.Step.{Step}
 
 -- f of the option in the range, and elsewhere the option as it was
@@ -31,15 +26,6 @@ unit_on start end = record {
 -- f of the option where the other one is some
 abbrev pub if_some : {V : Type 0} → (Option V → Option V) → Option V → Option (Unit {0}) → Option V
 if_some f p q = cond (is_some q) (f p) p
-
--- the steps before place n, and items behind them
-abbrev pub begun : {K V : Type 0} → List (List (Step K V)) → ℕ → List (Step K V) → Steps K V
-begun lists n items = steps_of (take n (joined lists) ++ items)
-
--- a step with an option like q was put at the end, if that differs from the last one
-abbrev pub IsPutLike : {K V : Type 0} → (K → K → Ordering) → (V → V → Bool) → Steps K V → K →
-    Option V → Steps K V → Type 0
-IsPutLike order E old key q new = (p : Option _) × IsPut order E old key p new × AreAlike E p q
 
 -- the option, but none where its value fails the test
 abbrev pub kept : {V : Type 0} → (V → Bool) → Option V → Option V

@@ -15,7 +15,7 @@ use std::marker::Model;
 /// Keys, and the option that holds from each of them on. A clause reads it as these.
 #[derive(Drop)]
 pub struct BorrowedSteps<'a, K, V> {
-    steps: Vec<Step<&'a K, &'a V>>,
+    steps: &'a [Step<&'a K, &'a V>],
 }
 
 impl<'a, K, V> Model for BorrowedSteps<'a, K, V> {
@@ -24,17 +24,16 @@ impl<'a, K, V> Model for BorrowedSteps<'a, K, V> {
 
     ghost Value = { Steps K V };
 
-    ghost view = { λ side. steps_read side.steps.items };
+    ghost view = { λ side. steps_read side.steps.now };
 }
 
 impl<'a, K, V> BorrowedSteps<'a, K, V> {
-    /// The steps of a map.
-    pub fn of_steps(alloc: Global, steps: &'a Chunks<Step<K, V>, ()>) -> Result<Self, AllocError>
-        ensures steps { IfOk result (λ side. side ≡ steps_in steps.now) }
-        ensures succeeds { joined steps.now ≡ [] → IsOk result }
+    /// The steps of a list of references.
+    #[inline(always)]
+    pub fn new(steps: &'a [Step<&'a K, &'a V>]) -> Self
+        ensures { result ≡ steps_read steps.now }
     {
-        let steps = references(alloc, steps)?;
-        Ok(BorrowedSteps { steps })
+        BorrowedSteps { steps }
     }
 
     /// How many steps there are.
@@ -47,55 +46,45 @@ impl<'a, K, V> BorrowedSteps<'a, K, V> {
 
     /// The key at a place.
     #[inline(always)]
-    pub fn key(&self, place: usize) -> &K
+    pub fn key(&self, place: usize) -> &'a K
         requires { place < length self.now.keys }
         ensures { HoldsAt (λ k. result.now ≡ k) self.now.keys place }
     {
-        self.steps[place].key
+        let steps = self.steps;
+        steps[place].key
     }
 
     /// The option before a place; none stands before the first.
     #[inline(always)]
-    pub fn option_before(&self, place: usize) -> Option<&V>
+    pub fn option_before(&self, place: usize) -> Option<&'a V>
         requires { place ≤ length self.now.keys }
         ensures { option_copied result ≡ option_before self.now place }
     {
+        let steps = self.steps;
         if place == 0 {
             None
         } else {
-            self.steps[place - 1].option
+            steps[place - 1].option
         }
     }
 
     /// The steps from a place on.
     #[inline(always)]
-    pub fn behind(&self, place: usize) -> &[Step<&'a K, &'a V>]
+    pub fn behind(&self, place: usize) -> &'a [Step<&'a K, &'a V>]
         requires { place ≤ length self.now.keys }
         ensures { (steps_read result.now).keys ≡ drop place self.now.keys }
     {
-        &self.steps[place..]
+        let steps = self.steps;
+        &steps[place..]
     }
 }
 
-impl<'a, K: Ord> BorrowedSteps<'a, K, ()> {
-    /// The steps of the map that has the unit on the members of a set alone.
-    pub fn of_set(alloc: Global, set: RangeSetRef<'a, K>) -> Result<Self, AllocError>
-        ensures keys { IfOk result (λ side. side.keys ≡ set.entry.boundaries.now) }
-        ensures options { IfOk result (λ side. side.options ≡ on_off true (length set.entry.boundaries.now)) }
-        ensures succeeds { set.entry.boundaries.now ≡ [] → IsOk result }
-    {
-        let steps = units(alloc, set.boundaries)?;
-        Ok(BorrowedSteps { steps })
-    }
-}
-
-// References to the steps, in order.
-fn references<'a, K, V>(
+/// References to the steps of a map, in order.
+pub fn references<'a, K, V>(
     alloc: Global,
     steps: &'a Chunks<Step<K, V>, ()>,
 ) -> Result<Vec<Step<&'a K, &'a V>>, AllocError>
-    ensures keys { IfOk result (λ list. (steps_read list.items).keys ≡ (steps_in steps.now).keys) }
-    ensures options { IfOk result (λ list. (steps_read list.items).options ≡ (steps_in steps.now).options) }
+    ensures steps { IfOk result (λ list. steps_read list.items ≡ steps_in steps.now) }
     ensures succeeds { joined steps.now ≡ [] → IsOk result }
 {
     let mut list = Vec::with_capacity(alloc, steps.len())?;
@@ -109,8 +98,11 @@ fn references<'a, K, V>(
     Ok(list)
 }
 
-// A step at each boundary: by turns with the unit, first, and with none.
-fn units<'a, K>(alloc: Global, boundaries: &'a [K]) -> Result<Vec<Step<&'a K, &'a ()>>, AllocError>
+/// The steps of the map that has the unit on the members of a set alone: one at each boundary.
+pub fn units<'a, K>(
+    alloc: Global,
+    boundaries: &'a [K],
+) -> Result<Vec<Step<&'a K, &'a ()>>, AllocError>
     ensures keys { IfOk result (λ list. (steps_read list.items).keys ≡ boundaries.now) }
     ensures options { IfOk result (λ list. (steps_read list.items).options ≡ on_off true (length boundaries.now)) }
     ensures succeeds { boundaries.now ≡ [] → IsOk result }

@@ -5,8 +5,10 @@ ghost use Rattle.std.specs.Bool.{beq};
 ghost use Rattle.std.specs.Option.{option_eq, option_or, is_some};
 ghost use Rattle.range_map.specs.Steps.{AreAlike};
 ghost use Rattle.range_map.specs.Units.{unit_if};
+ghost use Rattle.range_map.specs.Updated.{if_some};
 
 use crate::operation::MapOperation;
+use crate::update::MapUpdate;
 use crate::value::{MapValue, copy_option};
 use std::alloc::AllocError;
 
@@ -89,6 +91,24 @@ impl<V: MapValue> MapOperation<V, ()> for Within {
             copy_option(left)
         } else {
             Ok(None)
+        }
+    }
+}
+
+/// What an update makes of the left inside the right.
+#[derive(Drop)]
+pub struct Updating<'a, O>(pub &'a O);
+
+impl<V: MapValue, O: MapUpdate<V>> MapOperation<V, ()> for Updating<'_, O> {
+    type Output = V;
+
+    ghost gives = { λ op p q. if_some (O.gives op.0.now) p q };
+
+    fn apply(&self, left: Option<&V>, right: Option<&()>) -> Result<Option<V>, AllocError> {
+        if right.is_some() {
+            self.0.apply(left)
+        } else {
+            copy_option(left)
         }
     }
 }

@@ -9,7 +9,7 @@ ghost use Rattle.range_merge.specs.Counting.{AddsAtMost};
 ghost use Rattle.range_merge.specs.Runs.{digits};
 ghost use Rattle.range_list.specs.Lists.{joined, place_at, IsPlaceAt};
 ghost use Rattle.range_map.specs.Listed.{steps_in};
-ghost use Rattle.range_map.specs.Places.{ArePlaces, span_of, IsUpToEnd, IsAboveEnd, IsBelowEnd, IsFromEnd, Stands, StandsAtEnd, IsWindow};
+ghost use Rattle.range_map.specs.Places.{ArePlaces, span_of, IsUpToEnd, IsAboveEnd};
 
 use crate::step::{Step, StepKey};
 use range_collections::Comparisons;
@@ -23,15 +23,6 @@ pub struct Places {
     pub to: Place,
     pub starts: bool,
     pub ends: bool,
-}
-
-/// The steps that a range touches: those at its start, if there is one, between, and at its end.
-#[derive(Clone, Copy)]
-pub struct Window {
-    pub from: Place,
-    pub after: Place,
-    pub below: Place,
-    pub to: Place,
 }
 
 /// The places of a range that is given the option.
@@ -121,87 +112,6 @@ fn place_up_to_end<K: Ord, V>(
     match end {
         Some(end) => place_up_to(steps, end, count),
         None => steps.end(),
-    }
-}
-
-/// The window of a range.
-pub fn find_window<K: Ord, V>(steps: &Chunks<Step<K, V>, ()>, start: &K, end: &Option<K>) -> Window
-    requires ascending { IsAscending K.cmp (steps_in steps.now).keys }
-    requires some { (e : K) → end.now ≡ Some e → K.cmp start.now e ≡ Less }
-    ensures { IsWindow K.cmp steps.now start.now end.now result }
-{
-    let from = place_below(steps, start, &mut Comparisons::new());
-    let after = behind_key(steps, from, start);
-    let below = place_below_end(steps, end);
-    let to = behind_end(steps, below, end);
-    Window {
-        from,
-        after,
-        below,
-        to,
-    }
-}
-
-// The place before which all keys are below the end: that of all steps, if there is none.
-fn place_below_end<K: Ord, V>(steps: &Chunks<Step<K, V>, ()>, end: &Option<K>) -> Place
-    requires ascending { IsAscending K.cmp (steps_in steps.now).keys }
-    ensures place { IsPlaceAt steps.now result }
-    ensures within { place_at steps.now result ≤ length (steps_in steps.now).keys }
-    ensures below { AllWithin (IsBelowEnd K.cmp end.now) (steps_in steps.now).keys 0 (place_at steps.now result) }
-    ensures from { AllWithin (IsFromEnd K.cmp end.now) (steps_in steps.now).keys
-        (place_at steps.now result) (length (steps_in steps.now).keys) }
-{
-    match end {
-        Some(end) => place_below(steps, end, &mut Comparisons::new()),
-        None => steps.end(),
-    }
-}
-
-// The place behind the step at the end, if there is one.
-fn behind_end<K: Ord, V>(steps: &Chunks<Step<K, V>, ()>, at: Place, end: &Option<K>) -> Place
-    requires place { IsPlaceAt steps.now at }
-    requires ascending { IsAscending K.cmp (steps_in steps.now).keys }
-    requires within { place_at steps.now at ≤ length (steps_in steps.now).keys }
-    requires below { AllWithin (IsBelowEnd K.cmp end.now) (steps_in steps.now).keys 0 (place_at steps.now at) }
-    requires from { AllWithin (IsFromEnd K.cmp end.now) (steps_in steps.now).keys
-        (place_at steps.now at) (length (steps_in steps.now).keys) }
-    ensures place { IsPlaceAt steps.now result }
-    ensures stands { StandsAtEnd K.cmp (steps_in steps.now).keys (place_at steps.now at)
-        (place_at steps.now result) end.now }
-{
-    match end {
-        Some(end) => behind_key(steps, at, end),
-        None => at,
-    }
-}
-
-// The place behind the step at a place, if its key is this one, and else the place itself.
-fn behind_key<K: Ord, V>(steps: &Chunks<Step<K, V>, ()>, at: Place, key: &K) -> Place
-    requires place { IsPlaceAt steps.now at }
-    requires ascending { IsAscending K.cmp (steps_in steps.now).keys }
-    requires within { place_at steps.now at ≤ length (steps_in steps.now).keys }
-    requires below { AllWithin (λ y. K.cmp y key.now ≡ Less) (steps_in steps.now).keys 0 (place_at steps.now at) }
-    requires from { AllWithin (λ y. is_le (K.cmp key.now y) ≡ true) (steps_in steps.now).keys
-        (place_at steps.now at) (length (steps_in steps.now).keys) }
-    ensures place { IsPlaceAt steps.now result }
-    ensures stands { Stands K.cmp (steps_in steps.now).keys (place_at steps.now at)
-        (place_at steps.now result) key.now }
-{
-    if is_at(steps, at, key) {
-        return steps.place_after(at);
-    }
-    at
-}
-
-// Whether the key at a place is this one.
-fn is_at<K: Ord, V>(steps: &Chunks<Step<K, V>, ()>, at: Place, key: &K) -> bool
-    requires { IsPlaceAt steps.now at }
-    ensures { IsTrue result ↔ ((place_at steps.now at < length (steps_in steps.now).keys)
-        × ((d : K) → K.cmp (get_or (steps_in steps.now).keys (place_at steps.now at) d) key.now ≡ Equal)) }
-{
-    match key_at(steps, at) {
-        Some(own) => own.cmp(key).is_eq(),
-        None => false,
     }
 }
 

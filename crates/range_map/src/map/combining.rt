@@ -1,65 +1,65 @@
-//! What an operation makes of two maps: run by run, each step is put at the end of the result if
-//! its option differs from the last one.
-ghost use Rattle.std.specs.Prelude.{◌≡◌, ◌+◌, ◌*◌, ◌^◌, ◌<◌, ◌≤◌, None, length, All, IsOk, IfOk, OnOk};
+//! What an operation makes of two maps: run by run, each step is put behind the others if its option
+//! differs from the last one.
+ghost use Rattle.std.specs.Prelude.{◌≡◌, ◌+◌, ◌*◌, ◌^◌, ◌<◌, ◌≤◌, None, length, IsOk, IfOk, OnOk};
 ghost use Rattle.std.specs.List.{AllWithin};
 ghost use Rattle.std.specs.declared.cmp.Ordering.TheVariants.{Less, Equal};
 ghost use Rattle.range_merge.specs.Boundaries.{IsAscending};
 ghost use Rattle.range_merge.specs.Counting.{AddsAtMost};
 ghost use Rattle.range_merge.specs.Runs.{weight};
 ghost use Rattle.range_map.specs.Steps.{IsCanonical};
-ghost use Rattle.range_map.specs.Listed.{steps_in};
+ghost use Rattle.range_map.specs.Listed.{steps_of};
 ghost use Rattle.range_map.specs.Changed.{IsCombined};
-ghost use Rattle.range_map.specs.Combining.{IsRun, IsBelowFrom, IsPut, IsMadeUpTo, left_len, right_len};
+ghost use Rattle.range_map.specs.Combining.{IsRun, IsBelowFrom, IsMadeUpTo, left_len, right_len};
 
-use crate::borrowed_steps::BorrowedSteps;
+use crate::borrowed_steps::{BorrowedSteps, references};
 use crate::map::RangeMap;
 use crate::operation::MapOperation;
-use crate::places::holds_before;
+use crate::putting::put;
 use crate::runs::{left_len, next_run, right_len};
 use crate::step::Step;
 use range_collections::{Comparisons, Copier, EntryClone, EntryCopier, Run};
 use range_list::Chunks;
 use std::alloc::{AllocError, Global};
 
-/// What the operation makes of both.
-pub fn combined<K: Ord + Drop, V, W, O: MapOperation<V, W>, C: Copier<K>>(
+// The steps of what the operation makes of both.
+fn combined<K: Ord + Drop, V, W, O: MapOperation<V, W>, C: Copier<K>>(
     alloc: Global,
     a: &BorrowedSteps<K, V>,
     b: &BorrowedSteps<K, W>,
     op: &O,
     copier: &C,
     count: &mut Comparisons,
-) -> Result<RangeMap<K, O::Output>, AllocError>
+) -> Result<Vec<Step<K, O::Output>>, AllocError>
     requires off { O.gives op.now None None ≡ None }
     requires a_ascends { IsAscending K.cmp a.now.keys }
     requires b_ascends { IsAscending K.cmp b.now.keys }
     requires made { count.old < 2 ^ 64 }
     requires copies { (x y : K) → C.alike x y → K.cmp x y ≡ Equal }
-    ensures values { IfOk result (λ map. IsCombined K.cmp O.Output.eq (O.gives op.now) a.now b.now map) }
+    ensures made { IfOk result (λ list. IsMadeUpTo K.cmp O.Output.eq (O.gives op.now) a.now b.now
+        (length a.now.keys) (length b.now.keys) (steps_of list.items)) }
     ensures comparisons { AddsAtMost count.old count.new
         (2 * weight K.cmp a.now.keys b.now.keys) }
-    ensures succeeds { length a.now.keys ≡ 0 → length b.now.keys ≡ 0 → IsOk result }
 {
-    let mut made = RangeMap::new(alloc);
+    let mut list = Vec::new(alloc);
     let a_len = a.len();
     let b_len = b.len();
     let mut i = 0;
     let mut j = 0;
     while i < a_len && j < b_len {
         let run = next_run(a, i, b, j, count);
-        put_run(&mut made, a, i, b, j, run, op, copier)?;
+        put_run(&mut list, a, i, b, j, run, op, copier)?;
         i += left_len(run);
         j += right_len(run);
     }
-    put_left(&mut made, a, i, a_len, b, j, op, copier)?;
-    put_right(&mut made, a, a_len, b, j, b_len, op, copier)?;
-    Ok(made)
+    put_left(&mut list, a, i, a_len, b, j, op, copier)?;
+    put_right(&mut list, a, a_len, b, j, b_len, op, copier)?;
+    Ok(list)
 }
 
 // Puts the steps of a run.
 #[inline]
 fn put_run<K: Ord + Drop, V, W, O: MapOperation<V, W>, C: Copier<K>>(
-    made: &mut RangeMap<K, O::Output>,
+    list: &mut Vec<Step<K, O::Output>>,
     a: &BorrowedSteps<K, V>,
     i: usize,
     b: &BorrowedSteps<K, W>,
@@ -75,22 +75,22 @@ fn put_run<K: Ord + Drop, V, W, O: MapOperation<V, W>, C: Copier<K>>(
     requires b_few { length b.now.keys < 2 ^ 64 }
     requires a_ascends { IsAscending K.cmp a.now.keys }
     requires b_ascends { IsAscending K.cmp b.now.keys }
-    requires made { IsMadeUpTo K.cmp O.Output.eq (O.gives op.now) a.now b.now i j made.old }
+    requires made { IsMadeUpTo K.cmp O.Output.eq (O.gives op.now) a.now b.now i j (steps_of list.old.items) }
     requires copies { (x y : K) → C.alike x y → K.cmp x y ≡ Equal }
     ensures { OnOk result (IsMadeUpTo K.cmp O.Output.eq (O.gives op.now) a.now b.now
-        (i + left_len run) (j + right_len run) made.new) }
+        (i + left_len run) (j + right_len run) (steps_of list.new.items)) }
 {
     match run {
-        Run::Left(n) => put_left(made, a, i, i + n, b, j, op, copier),
-        Run::Right(n) => put_right(made, a, i, b, j, j + n, op, copier),
-        Run::Both => put_both(made, a, i, b, j, op, copier),
+        Run::Left(n) => put_left(list, a, i, i + n, b, j, op, copier),
+        Run::Right(n) => put_right(list, a, i, b, j, j + n, op, copier),
+        Run::Both => put_both(list, a, i, b, j, op, copier),
     }
 }
 
 // Puts the left's steps from a place up to another, which are below the right's from place `j` on.
 #[inline]
 fn put_left<K: Ord + Drop, V, W, O: MapOperation<V, W>, C: Copier<K>>(
-    made: &mut RangeMap<K, O::Output>,
+    list: &mut Vec<Step<K, O::Output>>,
     a: &BorrowedSteps<K, V>,
     i: usize,
     to: usize,
@@ -105,14 +105,13 @@ fn put_left<K: Ord + Drop, V, W, O: MapOperation<V, W>, C: Copier<K>>(
     requires below { AllWithin (IsBelowFrom K.cmp b.now.keys j) a.now.keys i to }
     requires a_ascends { IsAscending K.cmp a.now.keys }
     requires b_ascends { IsAscending K.cmp b.now.keys }
-    requires made { IsMadeUpTo K.cmp O.Output.eq (O.gives op.now) a.now b.now i j made.old }
+    requires made { IsMadeUpTo K.cmp O.Output.eq (O.gives op.now) a.now b.now i j (steps_of list.old.items) }
     requires copies { (x y : K) → C.alike x y → K.cmp x y ≡ Equal }
-    ensures made { OnOk result (IsMadeUpTo K.cmp O.Output.eq (O.gives op.now) a.now b.now to j made.new) }
-    ensures none { i ≡ to → IsOk result }
+    ensures made { OnOk result (IsMadeUpTo K.cmp O.Output.eq (O.gives op.now) a.now b.now to j (steps_of list.new.items)) }
 {
     for n in i..to {
         let option = op.apply(a.option_before(n + 1), b.option_before(j))?;
-        put(made, a.key(n), option, copier)?;
+        put(None, list, a.key(n), option, copier)?;
     }
     Ok(())
 }
@@ -120,7 +119,7 @@ fn put_left<K: Ord + Drop, V, W, O: MapOperation<V, W>, C: Copier<K>>(
 // Puts the right's steps from a place up to another, which are below the left's from place `i` on.
 #[inline]
 fn put_right<K: Ord + Drop, V, W, O: MapOperation<V, W>, C: Copier<K>>(
-    made: &mut RangeMap<K, O::Output>,
+    list: &mut Vec<Step<K, O::Output>>,
     a: &BorrowedSteps<K, V>,
     i: usize,
     b: &BorrowedSteps<K, W>,
@@ -135,14 +134,13 @@ fn put_right<K: Ord + Drop, V, W, O: MapOperation<V, W>, C: Copier<K>>(
     requires below { AllWithin (IsBelowFrom K.cmp a.now.keys i) b.now.keys j to }
     requires a_ascends { IsAscending K.cmp a.now.keys }
     requires b_ascends { IsAscending K.cmp b.now.keys }
-    requires made { IsMadeUpTo K.cmp O.Output.eq (O.gives op.now) a.now b.now i j made.old }
+    requires made { IsMadeUpTo K.cmp O.Output.eq (O.gives op.now) a.now b.now i j (steps_of list.old.items) }
     requires copies { (x y : K) → C.alike x y → K.cmp x y ≡ Equal }
-    ensures made { OnOk result (IsMadeUpTo K.cmp O.Output.eq (O.gives op.now) a.now b.now i to made.new) }
-    ensures none { j ≡ to → IsOk result }
+    ensures made { OnOk result (IsMadeUpTo K.cmp O.Output.eq (O.gives op.now) a.now b.now i to (steps_of list.new.items)) }
 {
     for n in j..to {
         let option = op.apply(a.option_before(i), b.option_before(n + 1))?;
-        put(made, b.key(n), option, copier)?;
+        put(None, list, b.key(n), option, copier)?;
     }
     Ok(())
 }
@@ -150,7 +148,7 @@ fn put_right<K: Ord + Drop, V, W, O: MapOperation<V, W>, C: Copier<K>>(
 // Puts one step of both, whose keys are equal.
 #[inline]
 fn put_both<K: Ord + Drop, V, W, O: MapOperation<V, W>, C: Copier<K>>(
-    made: &mut RangeMap<K, O::Output>,
+    list: &mut Vec<Step<K, O::Output>>,
     a: &BorrowedSteps<K, V>,
     i: usize,
     b: &BorrowedSteps<K, W>,
@@ -163,49 +161,12 @@ fn put_both<K: Ord + Drop, V, W, O: MapOperation<V, W>, C: Copier<K>>(
     requires b_few { length b.now.keys < 2 ^ 64 }
     requires a_ascends { IsAscending K.cmp a.now.keys }
     requires b_ascends { IsAscending K.cmp b.now.keys }
-    requires made { IsMadeUpTo K.cmp O.Output.eq (O.gives op.now) a.now b.now i j made.old }
+    requires made { IsMadeUpTo K.cmp O.Output.eq (O.gives op.now) a.now b.now i j (steps_of list.old.items) }
     requires copies { (x y : K) → C.alike x y → K.cmp x y ≡ Equal }
-    ensures { OnOk result (IsMadeUpTo K.cmp O.Output.eq (O.gives op.now) a.now b.now (i + 1) (j + 1) made.new) }
+    ensures { OnOk result (IsMadeUpTo K.cmp O.Output.eq (O.gives op.now) a.now b.now (i + 1) (j + 1) (steps_of list.new.items)) }
 {
     let option = op.apply(a.option_before(i + 1), b.option_before(j + 1))?;
-    put(made, a.key(i), option, copier)
-}
-
-// Puts a step at the end, with a copy of the key, if its option differs from the last one.
-#[inline]
-pub(super) fn put<K: Ord + Drop, U: Eq + Drop, C: Copier<K>>(
-    made: &mut RangeMap<K, U>,
-    key: &K,
-    option: Option<U>,
-    copier: &C,
-) -> Result<(), AllocError>
-    requires below { All (λ k. K.cmp k key.now ≡ Less) made.old.keys }
-    requires copies { (x y : K) → C.alike x y → K.cmp x y ≡ Equal }
-    ensures { OnOk result (IsPut K.cmp U.eq made.old key.now option made.new) }
-{
-    push(&mut made.steps, key, option, copier)
-}
-
-// Puts a step at the end of the list, with a copy of the key, if its option differs from the last
-// one.
-#[inline]
-fn push<K: Ord + Drop, U: Eq + Drop, C: Copier<K>>(
-    steps: &mut Chunks<Step<K, U>, ()>,
-    key: &K,
-    option: Option<U>,
-    copier: &C,
-) -> Result<(), AllocError>
-    requires canonical { IsCanonical K.cmp U.eq (steps_in steps.old) }
-    requires below { All (λ k. K.cmp k key.now ≡ Less) (steps_in steps.old).keys }
-    requires copies { (x y : K) → C.alike x y → K.cmp x y ≡ Equal }
-    ensures canonical { IsCanonical K.cmp U.eq (steps_in steps.new) }
-    ensures put { OnOk result (IsPut K.cmp U.eq (steps_in steps.old) key.now option (steps_in steps.new)) }
-{
-    if holds_before(steps, steps.end(), &option) {
-        return Ok(());
-    }
-    let key = copier.copy(key)?;
-    steps.push(Step { key, option })
+    put(None, list, a.key(i), option, copier)
 }
 
 impl<K: EntryClone + Drop, V: Eq> RangeMap<K, V> {
@@ -256,23 +217,31 @@ impl<K: Ord + Drop, V: Eq> RangeMap<K, V> {
             (2 * weight K.cmp self.now.keys that.now.keys) }
         ensures succeeds { length self.now.keys ≡ 0 → length that.now.keys ≡ 0 → IsOk result }
     {
-        let left = self.borrowed_steps(alloc)?;
-        let right = that.borrowed_steps(alloc)?;
-        combined(alloc, &left, &right, op, copier, count)
+        if self.steps.is_empty() && that.steps.is_empty() {
+            return Ok(RangeMap::new(alloc));
+        }
+        let left = references(alloc, &self.steps)?;
+        let right = references(alloc, &that.steps)?;
+        let list = combined(
+            alloc,
+            &BorrowedSteps::new(&left),
+            &BorrowedSteps::new(&right),
+            op,
+            copier,
+            count,
+        )?;
+        RangeMap::of_steps(list)
     }
 }
 
-impl<K: Ord, V: Eq> RangeMap<K, V> {
-    // The steps, by reference.
-    #[inline(always)]
-    pub(super) fn borrowed_steps(
-        &self,
-        alloc: Global,
-    ) -> Result<BorrowedSteps<'_, K, V>, AllocError>
-        ensures steps { IfOk result (λ side. side ≡ self.now) }
-        ensures ascending { IfOk result (λ side. IsAscending K.cmp side.keys) }
-        ensures succeeds { length self.now.keys ≡ 0 → IsOk result }
+impl<K: Ord + Drop, V: Eq + Drop> RangeMap<K, V> {
+    // The map of these steps, which are moved.
+    #[inline]
+    pub(crate) fn of_steps(list: Vec<Step<K, V>>) -> Result<Self, AllocError>
+        requires { IsCanonical K.cmp V.eq (steps_of list.items) }
+        ensures { IfOk result (λ map. map ≡ steps_of list.items) }
     {
-        BorrowedSteps::of_steps(alloc, &self.steps)
+        let steps = Chunks::from_list(list)?;
+        Ok(RangeMap { steps })
     }
 }

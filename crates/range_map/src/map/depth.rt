@@ -9,7 +9,7 @@ ghost use Rattle.range_map.specs.Changed.{is_in_range};
 ghost use Rattle.range_map.specs.Depth.{AreDepths, IsDifference, depth_at, number_or_none};
 
 use crate::map::RangeMap;
-use crate::map::combining::put;
+use crate::putting::put;
 use range_collections::{Comparisons, Copier, EntryClone, EntryCopier, has_elements};
 use std::alloc::{AllocError, Global};
 use std::ops::Range;
@@ -141,16 +141,16 @@ fn swept<K: Ord + Drop, C: Copier<K>>(
     requires copies { (x y : K) → C.alike x y → K.cmp x y ≡ Equal }
     ensures { IfOk result (λ map. IsDifference K.cmp starts.now ends.now map) }
 {
-    let mut made = RangeMap::new(alloc);
+    let mut list = Vec::new(alloc);
     let mut i = 0;
     let mut j = 0;
     while j < ends.len() {
         let key = first_of(starts, i, &ends[j]);
         i = past(starts, i, key);
         j = past(ends, j, key);
-        put(&mut made, key, number_or_none(i - j), copier)?;
+        put(None, &mut list, key, number_or_none(i - j), copier)?;
     }
-    Ok(made)
+    RangeMap::of_steps(list)
 }
 
 // The start at a place if that is below the end, and the end otherwise.

@@ -8,6 +8,6 @@ use Rattle.range_map.proofs.borrowed_steps.BorrowedSteps.behind.Goals as goal
 
 pub returns : goal.returns
 returns g c =
-    rw (back_of c.deref.result.now c.args.place, c.deref.ensures.value)
-    (sym (drop-map (λ (s : Step (Bor g.row.K.Denot) (Bor g.row.V.Denot)). s.key.now) c.args.place c.self.inside.steps.items)
+    rw (back_of c.self.inside.steps.now c.args.place)
+    (sym (drop-map (λ (s : Step (Bor g.row.K.Denot) (Bor g.row.V.Denot)). s.key.now) c.args.place c.self.inside.steps.now)
     ∙ ap (λ (m : Steps g.row.K.Denot g.row.V.Denot). drop c.args.place m.keys) c.self.view_is)

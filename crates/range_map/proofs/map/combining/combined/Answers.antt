@@ -1,7 +1,8 @@
-use Rattle.std.proofs.Common.{ℕ, length, subst, arith}
+use Rattle.std.proofs.Common.{ℕ, List, length, ap, subst, arith}
 use Rattle.range_merge.proofs.FirstRun.{weight-le}
 use Rattle.range_map.specs.Combining.{IsMadeUpTo}
-use Rattle.range_map.proofs.MadeUpTo.{IsMadeUpTo-nothing, IsCombined-made}
+use Rattle.range_map.specs.Listed.{steps_of}
+use Rattle.range_map.proofs.MadeUpTo.{IsMadeUpTo-nothing}
 use Rattle.range_map.proofs.RunPlaces.{left_len-within, right_len-within}
 use Rattle.range_map.proofs.map.combining.combined.Goals as goal
 
@@ -14,7 +15,7 @@ loop-i-init g c =
       right_within = omega arith;
       at_least = omega arith;
       paid = omega arith;
-      made = IsMadeUpTo-nothing g.K.Ord.cmp g.met.K.Ord.total g.O.Output.PartialEq.eq g.met.O.Output.Eq.laws (g.O.MapOperation.gives c.args.op.now) a b c.requires.off c.new-made.result c.new-made.ensures.steps.0 c.new-made.ensures.steps.1;
+      made = IsMadeUpTo-nothing g.K.Ord.cmp g.met.K.Ord.total g.O.Output.PartialEq.eq g.met.O.Output.Eq.laws (g.O.MapOperation.gives c.args.op.now) a b c.requires.off (steps_of c.new-list.result.items) (ap (λ (ss : List _). (steps_of ss).keys) c.new-list.ensures.items) (ap (λ (ss : List _). (steps_of ss).options) c.new-list.ensures.items);
     }
 
 pub next_run-run-requires-clause-made : goal.next_run-run-requires-clause-made
@@ -43,15 +44,13 @@ loop-i-preserved g c =
       made = rw (c.left_len-i.ensures, c.right_len-j.ensures) c.in_ok-put_run.ensures;
     }
 
-pub returns-clause-values : goal.returns-clause-values
-returns-clause-values g c =
+pub returns-clause-made : goal.returns-clause-made
+returns-clause-made g c =
     let order = g.K.Ord.cmp in
     let a = c.args.a.now in
     let b = c.args.b.now in
     let E = g.O.Output.PartialEq.eq in
     let f = g.O.MapOperation.gives c.args.op.now in
-    let made = c.put_right.new.made in
-    let all : IsMadeUpTo order E f a b (length a.keys) (length b.keys) made =
+    let made = steps_of c.put_right.new.list.items in
     subst (λ (m : ℕ). IsMadeUpTo order E f a b (length a.keys) m made) c.len-b_len.ensures
-    (subst (λ (n : ℕ). IsMadeUpTo order E f a b n c.len-b_len.result made) c.len-a_len.ensures c.in_ok-put_right.ensures.made) in
-    IsCombined-made order g.met.K.Ord.total E g.met.O.Output.Eq.laws f a b made all
+    (subst (λ (n : ℕ). IsMadeUpTo order E f a b n c.len-b_len.result made) c.len-a_len.ensures c.in_ok-put_right.ensures.made)

@@ -1,14 +1,9 @@
-use Rattle.std.proofs.Common.{◌≡◌, get_or, subst, sym, ap, ap₂, ◌∙◌, arith}
+use Rattle.std.proofs.Common.{◌≡◌, [], refl, subst, sym, ap₂, ◌∙◌, arith}
 use Rattle.std.specs.Option.{option_eq}
 use Rattle.range_map.specs.Combining.{IsBelowFrom}
+use Rattle.range_map.specs.Listed.{steps_of}
 use Rattle.range_map.proofs.MadeUpTo.{IsMadeUpTo-right}
 use Rattle.range_map.proofs.map.combining.put_right.Goals as goal
-
-pub put-requires-clause-below : goal.put-requires-clause-below
-put-requires-clause-below g c = λ m f within.
-    let key = c.key.result.now in
-    ap (g.K.Ord.cmp (get_or c.loop-n.made.keys m f)) (c.key.ensures key)
-    ∙ c.loop-n.invariant.right_apart m f within c.loop-n.n key (omega arith) (omega (arith, c.loop-n-test.true, c.requires.right_within))
 
 pub loop-n-preserved : goal.loop-n-preserved
 loop-n-preserved g c =
@@ -18,11 +13,11 @@ loop-n-preserved g c =
     let n = c.loop-n.n in
     let key = c.key.result.now in
     IsMadeUpTo-right g.K.Ord.cmp g.met.K.Ord.total g.O.Output.PartialEq.eq g.met.O.Output.Eq.laws f a b c.requires.a_ascends c.requires.b_ascends c.args.i n c.requires.left_within (omega (arith, c.loop-n-test.true, c.requires.right_within))
-    c.loop-n.made c.put.new.made key c.in_ok-option.option c.loop-n.invariant c.in_ok-put.ensures (omega (arith, c.loop-n-test.true, c.requires.right_within)) (c.key.ensures key)
+    (steps_of c.loop-n.list.items) (steps_of c.put.new.list.items) key c.in_ok-option.option c.loop-n.invariant (c.in_ok-put.ensures [] refl) (omega (arith, c.loop-n-test.true, c.requires.right_within)) (c.key.ensures key)
     (subst (λ k. IsBelowFrom g.K.Ord.cmp a.keys c.args.i k) (sym (c.key.ensures key)) (c.requires.below n key c.loop-n.auto.n c.loop-n-test.true))
     (sym (ap₂ (λ p q. option_eq g.O.Output.PartialEq.eq c.in_ok-option.option (f p q)) c.option_before.ensures c.option_before-in-loop-n.ensures) ∙ c.in_ok-option.ensures)
 
-pub returns-clause-made : goal.returns-clause-made
-returns-clause-made g c =
+pub returns : goal.returns
+returns g c =
     let e : c.loop-n.n ≡ c.args.to = omega (arith, c.loop-n-test.false, c.loop-n.auto.n-end c.requires.ordered) in
-    rw (sym e) c.loop-n.invariant
+    record { made = rw (sym e) c.loop-n.invariant }

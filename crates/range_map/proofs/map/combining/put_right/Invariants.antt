@@ -1,6 +1,7 @@
 use Rattle.range_map.specs.Combining.{IsMadeUpTo}
+use Rattle.range_map.specs.Listed.{steps_of}
 use Rattle.range_map.proofs.map.combining.put_right.Given as goal
 
 abbrev pub invariant-loop-n : goal.invariant-loop-n
 invariant-loop-n g l =
-    IsMadeUpTo g.K.Ord.cmp g.O.Output.PartialEq.eq (g.O.MapOperation.gives l.op) l.a l.b l.i l.n l.made
+    IsMadeUpTo g.K.Ord.cmp g.O.Output.PartialEq.eq (g.O.MapOperation.gives l.op) l.a l.b l.i l.n (steps_of l.list.items)
