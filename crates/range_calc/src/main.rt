@@ -3,7 +3,7 @@
 //! It answers its arguments with one line, and ends with a status that says how that went.
 #![tactic(auto)]
 
-use range_calc_answers::{answer, exit_code, out_of_memory, stored_words};
+use range_calc_answers::{answer, default_words, exit_code, out_of_memory};
 use std::env;
 use std::io::{self, ErrorKind};
 use std::process::ExitCode;
@@ -20,13 +20,13 @@ fn main(rt: HostRuntime) -> ExitCode {
     ExitCode::from(exit_code(&status))
 }
 
-/// The arguments without the program's name; where there are none, the words of the stored run.
+/// The arguments without the program's name; where there are none, the default words.
 fn arguments(rt: &(impl Env + AllocGlobal)) -> io::Result<Vec<String>> {
     let mut args = env::args(rt)?;
     let _program = args.next();
     let words: Vec<String> = args.collect(rt.alloc())?;
     if words.is_empty() {
-        return Ok(stored_words(rt.alloc())?);
+        return Ok(default_words(rt.alloc())?);
     }
     Ok(words)
 }

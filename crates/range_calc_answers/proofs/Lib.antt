@@ -1,6 +1,6 @@
 pub mod Numbers
 pub mod Collected
-pub mod Queries
+pub mod Asked
 pub mod Outcomes
 pub mod Readings
 pub mod Arrays

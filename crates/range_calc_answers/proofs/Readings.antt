@@ -15,8 +15,8 @@ use Rattle.range_calc_answers.specs.Words.{of_json}
 use Rattle.range_calc_answers.specs.Replies.{IsReadable}
 use Rattle.range_calc_answers.specs.Outcome.{IsReplyTo}
 use Rattle.range_calc_answers.specs.Faults.{IsFaultOfText, fault_of_value}
-use Rattle.range_calc_answers.specs.declared.fault.Fault.{Fault}
-use Rattle.range_calc_answers.specs.declared.fault.Fault.TheVariants as fault
+use Rattle.range_calc_answers.specs.declared.answering.Fault.{Fault}
+use Rattle.range_calc_answers.specs.declared.answering.Fault.TheVariants as fault
 
 -- where all are numbers, none is bad
 position_or_len-numbers : (ds : List Data) (zs : List ℤ) → map whole_number ds ≡ map Some zs → position_or_len is_bad ds ≡ length ds

@@ -6,8 +6,8 @@ use Rattle.serde_json.specs.Errors.{IsMemory}
 use Rattle.serde_json.specs.declared.error.Error.{Error}
 use Rattle.range_collections.specs.declared.json.JsonError.{JsonError}
 use Rattle.range_collections.specs.declared.json.JsonError.TheVariants.{NotArray, NotInteger, OutOfMemory}
-use Rattle.range_calc_answers.specs.declared.fault.Fault.{Fault}
-use Rattle.range_calc_answers.specs.declared.fault.Fault.TheVariants.{NoMemory, BadJson}
+use Rattle.range_calc_answers.specs.declared.answering.Fault.{Fault}
+use Rattle.range_calc_answers.specs.declared.answering.Fault.TheVariants.{NoMemory, BadJson}
 
 -- out of memory stays that; every other error is the text's
 abbrev pub IsFaultOfText : Error → Fault → Type 0

@@ -1,10 +1,10 @@
--- What a query is answered by.
+-- What is answered to what is asked.
 --     IsListLine f a b line          the line is the list that a table makes of two
 --     IsTestLine R a b line          the line says whether a relation holds of two lists
 --     IsNegationLine a line          the line is the list of the numbers of i64 that aren't members
---     IsReply query line             the line answers the query
---     IsSorted query                 each list of the query is strictly sorted
---     IsReadable query               a JSON text of the query holds a list
+--     IsReply asked line             the line answers what is asked
+--     IsSorted asked                 each list of it is strictly sorted
+--     IsReadable asked               its JSON text, if it has one, holds a list
 use Rattle.std.specs.Prelude.{◌≡◌, ◌↔◌, ℕ, ℤ, Bool, IsTrue, List, ◌∷◌, ◌++◌, Some, All, FitsSigned}
 use Rattle.std.specs.Int.{w64}
 use Rattle.std.specs.Fmt.{signed_decimal}
@@ -18,10 +18,10 @@ use Rattle.range_collections.specs.Sets.{IsDisjoint, IsSubset}
 use Rattle.range_collections.specs.Split.{split_left, split_right}
 use Rattle.range_collections.specs.Text.{set_text}
 use Rattle.range_collections.specs.Values.{Negates}
-use Rattle.range_calc_answers.specs.Words.{Query, of_list, of_two_lists, of_list_and_number, of_json}
-use Rattle.range_calc_answers.specs.declared.commands.TwoLists.TheVariants.{Union, Intersection, Difference, SymmetricDifference, Disjoint, Subset, Superset}
-use Rattle.range_calc_answers.specs.declared.commands.ListAndNumber.TheVariants.{Contains, Split}
-use Rattle.range_calc_answers.specs.declared.commands.OneList.TheVariants.{Not, Show, ToJson}
+use Rattle.range_calc_answers.specs.Words.{Asked, of_list, of_two_lists, of_list_and_number, of_json}
+use Rattle.range_calc_answers.specs.declared.request.TwoLists.TheVariants.{Union, Intersection, Difference, SymmetricDifference, Disjoint, Subset, Superset}
+use Rattle.range_calc_answers.specs.declared.request.ListAndNumber.TheVariants.{Contains, Split}
+use Rattle.range_calc_answers.specs.declared.request.OneList.TheVariants.{Not, Show, ToJson}
 use Rattle.range_calc_answers.specs.Line.{list_text, array_text, truth_text}
 
 -- the line is the text of the one list that the table makes of the two
@@ -43,8 +43,8 @@ IsNegationLine a line =
 abbrev pub HoldsItems : List ℕ → List ℤ → Type 0
 HoldsItems text items = (value : Data) × (read text ≡ Some value) × IsReadingOf value items
 
--- the line answers the query
-abbrev pub IsReply : Query → List ℕ → Type 0
+-- the line answers what is asked
+abbrev pub IsReply : Asked → List ℕ → Type 0
 IsReply (of_two_lists Union a b) line = IsListLine union_table a b line
 IsReply (of_two_lists Intersection a b) line = IsListLine intersection_table a b line
 IsReply (of_two_lists Difference a b) line = IsListLine difference_table a b line
@@ -60,14 +60,14 @@ IsReply (of_list Show a) line = line ≡ set_text signed_decimal a
 IsReply (of_list ToJson a) line = line ≡ array_text a
 IsReply (of_json text) line = (items : List ℤ) × HoldsItems text items × (line ≡ list_text items)
 
--- each list of the query is strictly sorted
-abbrev pub IsSorted : Query → Type 0
+-- each list of it is strictly sorted
+abbrev pub IsSorted : Asked → Type 0
 IsSorted (of_list command a) = IsAscending int_cmp a
 IsSorted (of_two_lists command a b) = IsAscending int_cmp a × IsAscending int_cmp b
 IsSorted (of_list_and_number command a n) = IsAscending int_cmp a
 IsSorted (of_json text) = Unit {0}
 
--- the text of a `json` query holds a list; no other query has such a text
-abbrev pub IsReadable : Query → Type 0
+-- the text of `json` holds a list; nothing else that is asked has such a text
+abbrev pub IsReadable : Asked → Type 0
 IsReadable (of_json text) = (items : List ℤ) × HoldsItems text items
 IsReadable _ = Unit {0}

@@ -3,14 +3,8 @@
 #![tactic(auto)]
 
 mod answering;
-mod commands;
-mod fault;
 pub mod laws;
-mod line;
-mod replies;
-mod status;
-mod words;
+mod request;
 
-pub use answering::{answer, out_of_memory};
-pub use status::{Status, exit_code};
-pub use words::stored_words;
+pub use answering::{Status, answer, exit_code, out_of_memory};
+pub use request::default_words;

@@ -1,5 +1,5 @@
 use Rattle.std.proofs.Common.{refl, codes}
-use Rattle.range_calc_answers.specs.declared.status.Status.TheVariants.{Answered, NotSorted, BadJson}
+use Rattle.range_calc_answers.specs.declared.answering.Status.TheVariants.{Answered, NotSorted, BadJson}
 use Rattle.range_calc_answers.proofs.Outcomes.{asked-bad_words, out_of_memory-answers, out_of_memory-bad_words}
 use Rattle.range_calc_answers.proofs.answering.answer.Goals as goal
 

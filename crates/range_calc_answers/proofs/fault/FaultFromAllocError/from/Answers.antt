@@ -1,5 +1,0 @@
-use Rattle.std.proofs.Common.{refl}
-use Rattle.range_calc_answers.proofs.fault.FaultFromAllocError.from.Goals as goal
-
-pub returns : goal.returns
-returns c = refl
