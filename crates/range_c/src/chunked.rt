@@ -3,7 +3,7 @@ ghost use Rattle.std.specs.Prelude.{◌≡◌, ◌+◌, ◌<◌, ◌≤◌, ◌^
 ghost use Rattle.std.specs.List.{flat_map};
 ghost use Rattle.range_collections.specs.Boundaries.{IsAscending};
 ghost use Rattle.range_collections.specs.Connective.{Means, union_table, difference_table};
-ghost use Rattle.range_collections.specs.Fits.{IsRow};
+ghost use Rattle.range_collections.specs.Fits.{IsFit};
 ghost use Rattle.range_collections.specs.Insertion.{IsChangedByRange};
 ghost use Rattle.range_collections.specs.Ranges.{range_ends, range_items, range_now, ranges_of};
 ghost use Rattle.range_collections.specs.Sets.{AreEqual};
@@ -29,7 +29,7 @@ pub(crate) fn copied<T: EntryClone + Drop>(alloc: Global, a: &[T]) -> Option<Chu
     ChunkedRangeSet::from_view(alloc, RangeSetRef::new_unchecked(a)).ok()
 }
 
-// Puts the numbers from `start` to below `end` in, and answers whether there was memory for it.
+// Puts the numbers from `start` to below `end` in, and returns whether there was memory for it.
 pub(crate) fn insert<T: Countable + Copy>(set: &mut ChunkedSpace<T>, start: T, end: T) -> bool
     ensures { IsChangedByRange T.cmp union_table 0
         set.old (range_items T.cmp start end) set.new (outcome result) }
@@ -37,7 +37,7 @@ pub(crate) fn insert<T: Countable + Copy>(set: &mut ChunkedSpace<T>, start: T, e
     is_done(set.insert(start..end))
 }
 
-// Takes the numbers from `start` to below `end` out, and answers whether there was memory for it.
+// Takes the numbers from `start` to below `end` out, and returns whether there was memory for it.
 pub(crate) fn remove<T: Countable + Copy>(set: &mut ChunkedSpace<T>, start: T, end: T) -> bool
     ensures { IsChangedByRange T.cmp difference_table 0
         set.old (range_items T.cmp start end) set.new (outcome result) }
@@ -45,7 +45,7 @@ pub(crate) fn remove<T: Countable + Copy>(set: &mut ChunkedSpace<T>, start: T, e
     is_done(set.remove(start..end))
 }
 
-// Puts the numbers from `start` on in, and answers whether there was memory for it.
+// Puts the numbers from `start` on in, and returns whether there was memory for it.
 pub(crate) fn insert_from<T: Countable + Copy>(set: &mut ChunkedSpace<T>, start: T) -> bool
     ensures { IsChangedByRange T.cmp union_table 0
         set.old (start ∷ []) set.new (outcome result) }
@@ -53,7 +53,7 @@ pub(crate) fn insert_from<T: Countable + Copy>(set: &mut ChunkedSpace<T>, start:
     is_done(set.insert_from(start..))
 }
 
-// Takes the numbers from `start` on out, and answers whether there was memory for it.
+// Takes the numbers from `start` on out, and returns whether there was memory for it.
 pub(crate) fn remove_from<T: Countable + Copy>(set: &mut ChunkedSpace<T>, start: T) -> bool
     ensures { IsChangedByRange T.cmp difference_table 0
         set.old (start ∷ []) set.new (outcome result) }
@@ -61,7 +61,7 @@ pub(crate) fn remove_from<T: Countable + Copy>(set: &mut ChunkedSpace<T>, start:
     is_done(set.remove_from(start..))
 }
 
-// Puts the members of a list in, and answers whether there was memory for it.
+// Puts the members of a list in, and returns whether there was memory for it.
 pub(crate) fn insert_all<T: Countable + Copy>(set: &mut ChunkedSpace<T>, b: &[T]) -> bool
     requires { IsAscending T.cmp b.now }
     ensures means { OnOk (outcome result) (Means T.cmp union_table set.new set.old b.now) }
@@ -70,7 +70,7 @@ pub(crate) fn insert_all<T: Countable + Copy>(set: &mut ChunkedSpace<T>, b: &[T]
     is_done(set.insert_all(RangeSetRef::new_unchecked(b)))
 }
 
-// Takes the members of a list out, and answers whether there was memory for it.
+// Takes the members of a list out, and returns whether there was memory for it.
 pub(crate) fn remove_all<T: Countable + Copy>(set: &mut ChunkedSpace<T>, b: &[T]) -> bool
     requires { IsAscending T.cmp b.now }
     ensures means { OnOk (outcome result) (Means T.cmp difference_table set.new set.old b.now) }
@@ -124,11 +124,11 @@ pub(crate) fn first_fit<T: Countable + Copy>(
     count: u128,
     at: &mut T,
 ) -> bool
-    ensures fits { IsTrue result → IsRow T.cmp T.value false set.old
+    ensures fits { IsTrue result → IsFit T.cmp T.value false set.old
         (T.place within.start) (T.place within.end) count (T.place at.new) }
-    ensures least { IsTrue result → (n : ℕ) → IsRow T.cmp T.value false set.old
+    ensures least { IsTrue result → (n : ℕ) → IsFit T.cmp T.value false set.old
         (T.place within.start) (T.place within.end) count n → T.place at.new ≤ n }
-    ensures none { result ≡ false → (n : ℕ) → ¬ (IsRow T.cmp T.value false set.old
+    ensures none { result ≡ false → (n : ℕ) → ¬ (IsFit T.cmp T.value false set.old
         (T.place within.start) (T.place within.end) count n) }
     ensures no_answer { result ≡ false → at.new ≡ at.old }
     ensures unchanged { set.new ≡ set.old }
@@ -136,7 +136,7 @@ pub(crate) fn first_fit<T: Countable + Copy>(
     put(set.first_fit_count(within, count), at)
 }
 
-// Writes the boundaries to the front of `out`, if it has room for them, and answers how many there
+// Writes the boundaries to the front of `out`, if it has room for them, and returns how many there
 // are.
 pub(crate) fn copy<T: Ord + Copy>(set: &ChunkedRangeSet<T>, out: &mut [T]) -> usize
     ensures { CopiesTo set.now out.old out.new result }

@@ -1,7 +1,7 @@
 //! Where a stretch of numbers fits from a multiple on, and where members are in a row.
 ghost use Rattle.std.specs.Prelude.{◌≡◌, ◌<◌, ◌≤◌, ℕ, true, false, IsTrue};
 ghost use Rattle.range_collections.specs.Boundaries.{IsAscending};
-ghost use Rattle.range_collections.specs.Fits.{IsMultiple, IsRow};
+ghost use Rattle.range_collections.specs.Fits.{IsMultiple, IsFit};
 
 use crate::parts::put;
 use range_collections::{Countable, FromPlace, RangeSetRef};
@@ -17,16 +17,17 @@ pub(crate) fn first_fit_aligned<T: FromPlace>(
     at: &mut T,
 ) -> bool
     requires { IsAscending T.cmp a.now }
-    ensures fits { IsTrue result → IsRow T.cmp T.value false a.now
+    ensures fits { IsTrue result → IsFit T.cmp T.value false a.now
         (T.place within.start) (T.place within.end) count (T.place at.new) }
     ensures aligned { IsTrue result → IsMultiple T.zero align (T.place at.new) }
-    ensures least { IsTrue result → (n : ℕ) → IsMultiple T.zero align n → IsRow T.cmp T.value false a.now
+    ensures least { IsTrue result → (n : ℕ) → IsMultiple T.zero align n → IsFit T.cmp T.value false a.now
         (T.place within.start) (T.place within.end) count n → T.place at.new ≤ n }
     ensures none { result ≡ false → 0 < align → (n : ℕ) → IsMultiple T.zero align n →
-        ¬ (IsRow T.cmp T.value false a.now
+        ¬ (IsFit T.cmp T.value false a.now
         (T.place within.start) (T.place within.end) count n) }
     ensures unchanged { result ≡ false → at.new ≡ at.old }
 {
+    within.end.known();
     put(
         RangeSetRef::new_unchecked(a).first_fit_aligned(within, count, align),
         at,
@@ -42,11 +43,11 @@ pub(crate) fn first_run<T: Countable + Copy>(
     at: &mut T,
 ) -> bool
     requires { IsAscending T.cmp a.now }
-    ensures fits { IsTrue result → IsRow T.cmp T.value true a.now
+    ensures fits { IsTrue result → IsFit T.cmp T.value true a.now
         (T.place within.start) (T.place within.end) count (T.place at.new) }
-    ensures least { IsTrue result → (n : ℕ) → IsRow T.cmp T.value true a.now
+    ensures least { IsTrue result → (n : ℕ) → IsFit T.cmp T.value true a.now
         (T.place within.start) (T.place within.end) count n → T.place at.new ≤ n }
-    ensures none { result ≡ false → (n : ℕ) → ¬ (IsRow T.cmp T.value true a.now
+    ensures none { result ≡ false → (n : ℕ) → ¬ (IsFit T.cmp T.value true a.now
         (T.place within.start) (T.place within.end) count n) }
     ensures unchanged { result ≡ false → at.new ≡ at.old }
 {

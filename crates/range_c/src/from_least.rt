@@ -18,7 +18,7 @@ use range_collections::{Comparisons, Connective, MergeOperation, count_up_to};
 use range_merge::laws::changes_are_at_most_the_lengths;
 
 // Writes what the connective makes of both sets among the numbers from `least` on, where the buffer
-// has room, and answers how many boundaries that is.
+// has room, and returns how many boundaries that is.
 pub(crate) fn combine_from<T: Ord + Copy>(
     a: &[T],
     b: &[T],
@@ -67,7 +67,7 @@ fn is_on(of: &Connective, a: bool, b: bool) -> bool
     }
 }
 
-// The connective of how each side has changed: it is on where the other one has another answer than
+// The connective of how each side has changed: it is on where the other one has another result than
 // it had at first.
 fn changes_from(of: &Connective, a: bool, b: bool) -> Connective
     ensures off { result.neither ≡ false }

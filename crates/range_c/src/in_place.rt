@@ -13,7 +13,7 @@ ghost use Rattle.range_c.specs.InPlace.{ChangesList};
 use range_collections::{Comparisons, cut_at, has_elements};
 
 // Puts the numbers from `start` to below `end` into the set of the first `len` boundaries, and
-// answers how many it has then. Where the buffer has no room for them it is as it was.
+// returns how many it has then. Where the buffer has no room for them it is as it was.
 pub(crate) fn insert<T: Ord + Copy>(buffer: &mut [T], len: usize, start: T, end: T) -> usize
     requires within { len ≤ length buffer.old }
     requires fits { len + 2 < 2 ^ 64 }
@@ -25,7 +25,7 @@ pub(crate) fn insert<T: Ord + Copy>(buffer: &mut [T], len: usize, start: T, end:
 }
 
 // Takes the numbers from `start` to below `end` out of the set of the first `len` boundaries, and
-// answers how many it has then. Where the buffer has no room for them it is as it was.
+// returns how many it has then. Where the buffer has no room for them it is as it was.
 pub(crate) fn remove<T: Ord + Copy>(buffer: &mut [T], len: usize, start: T, end: T) -> usize
     requires within { len ≤ length buffer.old }
     requires fits { len + 2 < 2 ^ 64 }
@@ -37,7 +37,7 @@ pub(crate) fn remove<T: Ord + Copy>(buffer: &mut [T], len: usize, start: T, end:
 }
 
 // Leaves at the front of the buffer the set of its first `len` boundaries, with the numbers from
-// `start` to below `end` as members where `inside` is true, and else as no members. It answers how
+// `start` to below `end` as members where `inside` is true, and else as no members. It returns how
 // many boundaries that are. Where the buffer has no room for them it is as it was.
 fn set_range<T: Ord + Copy>(buffer: &mut [T], len: usize, start: T, end: T, inside: bool) -> usize
     requires within { len ≤ length buffer.old }
@@ -56,7 +56,7 @@ fn set_range<T: Ord + Copy>(buffer: &mut [T], len: usize, start: T, end: T, insi
 }
 
 // Replaces those of the first `len` items that stand between `from` and `to` by the start and the
-// end, where they are given. It answers how many items that are. Where the buffer has no room for
+// end, where they are given. It returns how many items that are. Where the buffer has no room for
 // them it is as it was.
 fn splice<T: Copy>(
     buffer: &mut [T],

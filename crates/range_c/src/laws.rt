@@ -1,4 +1,4 @@
-//! Laws of what the exports answer: functions that do nothing, and whose contracts are theorems on
+//! Laws of what the exports return: functions that do nothing, and whose contracts are theorems on
 //! the words of the other contracts.
 ghost use Rattle.std.specs.Prelude.{◌≡◌, ◌<◌, ◌≤◌, ℕ, Bool, true, false, IsTrue, List, Option, Some, None, length, take, drop, slice_get};
 ghost use Rattle.std.specs.Ordering.{is_le};
@@ -18,7 +18,7 @@ ghost use Rattle.range_c.specs.Text.{AnswersText};
 
 use range_collections::RangeSetRange;
 
-/// The length that is answered is that of the one list that means the operation, whether or not the
+/// The length that is returned is that of the one list that means the operation, whether or not the
 /// buffer has room for it.
 pub fn a_list_is_told_by_its_length<T: Ord>()
     ensures told { (f : Table) (a b old new items : List T) (n : ℕ) →
@@ -26,7 +26,7 @@ pub fn a_list_is_told_by_its_length<T: Ord>()
         AreAscending T.cmp a b → Means T.cmp f items a b → n ≡ length items }
 {}
 
-/// A buffer of the length that was answered is enough: the operation that had no room is done in
+/// A buffer of the length that was returned is enough: the operation that had no room is done in
 /// it.
 pub fn a_buffer_of_the_length_told_is_enough<T: Ord>()
     ensures enough { (f : Table) (a b items : List T) (short short_new long long_new : List T)
@@ -80,7 +80,7 @@ pub fn a_text_stands_in_its_buffer()
         drop (length text) new ≡ drop (length text) old }
 {}
 
-/// What is answered for a list changed in a buffer, and of one from the least number on, is its
+/// What is returned for a list changed in a buffer, and of one from the least number on, is its
 /// length; and it has the members of the connective, there of the numbers from the least one on.
 pub fn a_list_in_a_buffer_is_pinned<T: Ord>()
     ensures told { (f : Table) (a b old new items : List T) (n : ℕ) →

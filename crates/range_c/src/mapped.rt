@@ -9,7 +9,7 @@ use crate::chunked::{is_done, put_ends, put_one};
 use crate::parts::put;
 use range_map::{Iter, MapValue, RangeMap};
 
-// Gives the keys from `start` to below `end` the value, and answers whether there was memory for it.
+// Gives the keys from `start` to below `end` the value, and returns whether there was memory for it.
 pub(crate) fn insert<K: Ord + Drop, V: MapValue>(
     map: &mut RangeMap<K, V>,
     start: K,
@@ -21,7 +21,7 @@ pub(crate) fn insert<K: Ord + Drop, V: MapValue>(
     is_done(map.insert(start..end, value))
 }
 
-// Takes the values of the keys from `start` to below `end` away, and answers whether there was
+// Takes the values of the keys from `start` to below `end` away, and returns whether there was
 // memory for it.
 pub(crate) fn remove<K: Ord + Drop, V: MapValue>(map: &mut RangeMap<K, V>, start: K, end: K) -> bool
     ensures { IsSetIfDone K.cmp V.eq start (Some end) None map.old map.new result }
@@ -29,7 +29,7 @@ pub(crate) fn remove<K: Ord + Drop, V: MapValue>(map: &mut RangeMap<K, V>, start
     is_done(map.remove(start..end))
 }
 
-// Gives the keys from `start` on the value, and answers whether there was memory for it.
+// Gives the keys from `start` on the value, and returns whether there was memory for it.
 pub(crate) fn insert_from<K: Ord + Drop, V: MapValue>(
     map: &mut RangeMap<K, V>,
     start: K,
@@ -40,7 +40,7 @@ pub(crate) fn insert_from<K: Ord + Drop, V: MapValue>(
     is_done(map.insert_from(start.., value))
 }
 
-// Takes the values of the keys from `start` on away, and answers whether there was memory for it.
+// Takes the values of the keys from `start` on away, and returns whether there was memory for it.
 pub(crate) fn remove_from<K: Ord + Drop, V: MapValue>(map: &mut RangeMap<K, V>, start: K) -> bool
     ensures { IsSetIfDone K.cmp V.eq start None None map.old map.new result }
 {
@@ -78,7 +78,7 @@ pub(crate) fn range_at<K: Ord + Copy, V: Eq + Copy>(
 }
 
 // Writes the first ranges that share a key with the one from `start` to below `end`, whole, and
-// their values: as many as have room for two keys and for a value. Answers how many ends these are.
+// their values: as many as have room for two keys and for a value. Returns how many ends these are.
 pub(crate) fn overlapping<K: Ord + Copy, V: Eq + Copy>(
     map: &RangeMap<K, V>,
     start: K,

@@ -117,7 +117,7 @@ pub(crate) fn next_gap<T: Ord + Copy>(a: &[T], from: &T, next: &mut T) -> bool
     put(RangeSetRef::new_unchecked(a).next_gap(from).copied(), next)
 }
 
-// Writes what was found, and answers whether anything was.
+// Writes what was found, and returns whether anything was.
 pub(crate) fn put<T: Copy>(found: Option<T>, place: &mut T) -> bool
     ensures some { IfSome found (λ it. (result ≡ true) × (place.new ≡ it)) }
     ensures none { IfNone found ((result ≡ false) × (place.new ≡ place.old)) }
@@ -189,10 +189,12 @@ pub(crate) fn covered<T: Countable>(a: &[T], count: &mut u64) -> bool
 // member, and then writes the least.
 pub(crate) fn first_fit<T: Unsigned>(a: &[T], start: T, end: T, len: T, at: &mut T) -> bool
     requires { IsAscending T.cmp a.now }
-    ensures fits { IsTrue result → Fits T.cmp T.place a.now start end len at.new }
+    ensures fits { IsTrue result →
+        Fits T.cmp T.place a.now (T.place start) (T.place end) len at.new }
     ensures least { IsTrue result → (x : T) →
-        Fits T.cmp T.place a.now start end len x → T.place at.new ≤ T.place x }
-    ensures none { result ≡ false → (x : T) → ¬ (Fits T.cmp T.place a.now start end len x) }
+        Fits T.cmp T.place a.now (T.place start) (T.place end) len x → T.place at.new ≤ T.place x }
+    ensures none { result ≡ false → (x : T) →
+        ¬ (Fits T.cmp T.place a.now (T.place start) (T.place end) len x) }
     ensures unchanged { result ≡ false → at.new ≡ at.old }
 {
     put(RangeSetRef::new_unchecked(a).first_fit(start..end, len), at)

@@ -11,7 +11,7 @@ ghost use Rattle.range_c.specs.Joining.{IsPut};
 use crate::ends::Ends;
 use range_collections::{Comparisons, has_elements};
 
-// Moves the ranges of the set of all numbers in the ranges to the front, as many as it answers.
+// Moves the ranges of the set of all numbers in the ranges to the front, as many as it returns.
 // Empty and reversed ones have no number.
 pub(crate) fn from_ranges<E: Ends>(ranges: &mut [E]) -> usize
     ensures within { result ≤ length ranges.old }

@@ -8,7 +8,7 @@ ghost use Rattle.range_c.specs.Text.{AnswersText, PutsText};
 use itoa::{Buffer, Integer};
 use range_collections::{Iter, RangeSetRange, RangeSetRef};
 
-// Writes the ranges to the front of the buffer, with a comma and a space between them, and answers
+// Writes the ranges to the front of the buffer, with a comma and a space between them, and returns
 // how many bytes that is. Where the buffer has no room for them it is as it was.
 pub(crate) fn print<T: Ord + Integer>(a: &[T], out: &mut [u8]) -> usize
     requires sorted { IsAscending T.cmp a.now }
@@ -23,7 +23,7 @@ pub(crate) fn print<T: Ord + Integer>(a: &[T], out: &mut [u8]) -> usize
     put_ranges(set.iter(), out)
 }
 
-// Puts the ranges to the front of the buffer, where it has room, and answers how long their text
+// Puts the ranges to the front of the buffer, where it has room, and returns how long their text
 // is.
 fn put_ranges<T: Integer>(mut ranges: Iter<'_, T>, out: &mut [u8]) -> usize
     requires fits { length (ranges_text T.text (ranges_of ranges)) < 2 ^ 64 }
@@ -77,7 +77,7 @@ fn put_number<T: Integer>(out: &mut [u8], len: usize, n: &T) -> usize
     put(out, len, Buffer::new().format(*n).as_bytes())
 }
 
-// Puts bytes after the first `len`, where the buffer has room for them, and answers how many it
+// Puts bytes after the first `len`, where the buffer has room for them, and returns how many it
 // needs room for with them.
 fn put(out: &mut [u8], len: usize, bytes: &[u8]) -> usize
     requires fits { len + length bytes.now < 2 ^ 64 }

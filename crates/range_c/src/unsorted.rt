@@ -3,7 +3,7 @@ ghost use Rattle.std.specs.Prelude.{◌≡◌, ◌≤◌, length, take};
 ghost use Rattle.std.specs.List.{dedup};
 ghost use Rattle.range_collections.specs.Unsorted.{AreDistinctOf};
 
-// Sorts the items and moves the distinct ones to the front, as many as it answers.
+// Sorts the items and moves the distinct ones to the front, as many as it returns.
 pub(crate) fn from_unsorted<T: Ord + Copy>(items: &mut [T]) -> usize
     ensures within { result ≤ length items.old }
     ensures distinct { AreDistinctOf T.cmp items.old (take result items.new) }

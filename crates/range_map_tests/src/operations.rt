@@ -123,6 +123,24 @@ fn answer(alloc: Global, call: Call, a: &Map, b: &Map) -> Result<Map, AllocError
     }
 }
 
+// What a map has that is changed in place, where the other calls make a new one.
+fn changed(alloc: Global, call: Call, a: &Map, b: &Map) -> Result<Map, AllocError> {
+    let mut map = a.clone()?;
+    match call {
+        Call::UnionLeft => map.insert_where_free(b)?,
+        Call::UnionRight => map.insert_all(b)?,
+        Call::Restrict => {
+            let set: RangeSet2<u64> = b.domain(alloc)?;
+            map.retain_all(set.as_ref())?;
+        }
+        Call::Without => {
+            let set: RangeSet2<u64> = b.domain(alloc)?;
+            map.remove_all(set.as_ref())?;
+        }
+    }
+    Ok(map)
+}
+
 #[test]
 fn made_up_maps_are_put_together(rt: HostRuntime) -> Result<(), AllocError> {
     let mut generator = Generator::new();
@@ -133,6 +151,8 @@ fn made_up_maps_are_put_together(rt: HostRuntime) -> Result<(), AllocError> {
             let map = answer(rt.alloc(), call, &a, &b)?;
             let alike = has(&map, &expected(call, &a_options, &b_options));
             assert!(rt; alike, "{sequence} {call:?}");
+            let changed = changed(rt.alloc(), call, &a, &b)?;
+            assert!(rt; changed == map, "{sequence} {call:?} in place");
         }
     }
     Ok(())

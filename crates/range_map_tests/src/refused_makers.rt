@@ -25,9 +25,13 @@ enum Wanted {
     Combined,
     Updated,
     UpdatedFrom,
+    InsertedAll,
+    InsertedWhereFree,
+    RemovedAll,
+    RetainedAll,
 }
 
-const ALL: [Wanted; 13] = [
+const ALL: [Wanted; 17] = [
     Wanted::Copy,
     Wanted::Ranges,
     Wanted::Booking,
@@ -41,6 +45,10 @@ const ALL: [Wanted; 13] = [
     Wanted::Combined,
     Wanted::Updated,
     Wanted::UpdatedFrom,
+    Wanted::InsertedAll,
+    Wanted::InsertedWhereFree,
+    Wanted::RemovedAll,
+    Wanted::RetainedAll,
 ];
 
 #[derive(Drop)]
@@ -152,6 +160,39 @@ fn update_from(mut map: RangeMap<u16, u16>) -> Answer {
     }
 }
 
+// The answer of a change in place, which leaves the ranges up to the end, or else the map as it was.
+fn changed_answer(
+    changed: Result<(), AllocError>,
+    map: &RangeMap<u16, u16>,
+    start: u16,
+    end: u16,
+) -> Answer {
+    match changed {
+        Ok(()) => Answer::right_if(has(map, start, end)),
+        Err(_) => refused_if(has(map, 0, 400)),
+    }
+}
+
+// The answer of the ranges of a map put into another one, which has the second of them already, over
+// its values or where it has none.
+fn insert_all(alloc: Global, mut map: RangeMap<u16, u16>, over: bool) -> Answer {
+    let Some(that) = spread(alloc) else {
+        return Answer::Refused;
+    };
+    if map.remove(0..10).is_err() {
+        return Answer::Refused;
+    }
+    let made = if over {
+        map.insert_all(&that)
+    } else {
+        map.insert_where_free(&that)
+    };
+    match made {
+        Ok(()) => Answer::right_if(has(&map, 0, 400)),
+        Err(_) => refused_if(has(&map, 20, 400)),
+    }
+}
+
 // The answer of many ranges counted.
 fn count(alloc: Global) -> Answer {
     let ranges = [0..10u16, 5..20];
@@ -191,6 +232,18 @@ impl Call for Attempt {
             }
             Wanted::Updated => update(map),
             Wanted::UpdatedFrom => update_from(map),
+            Wanted::InsertedAll => insert_all(alloc, map, true),
+            Wanted::InsertedWhereFree => insert_all(alloc, map, false),
+            Wanted::RemovedAll => {
+                let mut map = map;
+                let made = map.remove_all(half);
+                changed_answer(made, &map, 20, 400)
+            }
+            Wanted::RetainedAll => {
+                let mut map = map;
+                let made = map.retain_all(half);
+                changed_answer(made, &map, 0, 20)
+            }
         }
     }
 }
@@ -277,8 +330,11 @@ fn a_copy_that_is_refused_is_an_error(rt: HostRuntime) -> Result<(), AllocError>
     assert!(rt; map.union_with_left(alloc, &map).is_err());
     assert!(rt; map.union_with_right(alloc, &map).is_err());
     assert!(rt; map.restrict(alloc, all.as_ref()).is_err());
-    let nothing = map.without(alloc, all.as_ref())?;
-    assert!(rt; nothing.is_empty());
+    assert!(rt; map.without(alloc, all.as_ref()).is_err());
+    assert!(rt; map.retain_all(all.as_ref()).is_err() && map.len() == 2);
+    let mut rest = pair(alloc)?;
+    rest.remove_all(all.as_ref())?;
+    assert!(rt; rest.is_empty());
     let booked = map.insert_free(30..40, Alone(2));
     assert!(rt; booked.is_ok() && value_at(&map, 35) == 2 && map.len() == 2);
     assert!(rt; map.insert_free(25..50, Alone(3)) == Err(InsertError::NotFree(Alone(3))));

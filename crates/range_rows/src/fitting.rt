@@ -1,9 +1,9 @@
 //! Values that stand in a row: how many of them are members, and where a number of them fit.
 use crate::row::{Kind, Row, Word};
 use crate::table::Table;
-use range_collections::{Countable, FromPlace, RangeSet2, Unsigned};
+use range_collections::{Countable, FromPlace, RangeSet2, RangeSetRange, Unsigned};
 use std::alloc::Global;
-use std::ops::Range;
+use std::ops::{Range, RangeFrom};
 
 /// What is asked.
 #[derive(Clone, Copy)]
@@ -154,17 +154,27 @@ fn covered<T: Countable + Drop>(set: RangeSet2<T>, row: &mut Row) -> Option<bool
 }
 
 // The first place beside the members where a length fits.
-fn first_fit<T: Unsigned + Word + Drop>(set: RangeSet2<T>, row: &mut Row) -> Option<bool> {
-    let (within, len) = (row.range::<T>()?, row.value::<T>()?);
+fn first_fit<T: Unsigned + FromPlace + Word + Drop>(
+    set: RangeSet2<T>,
+    row: &mut Row,
+) -> Option<bool> {
+    let (within, len) = (row.any_range::<T>()?, row.value::<T>()?);
     row.equals()?;
-    let (start, end, want) = (within.start, within.end, row.value_if_any::<T>()?);
-    Some(set.first_fit(start..end, len) == want && set.as_ref().first_fit(start..end, len) == want)
+    let (view, want) = (set.as_ref(), row.value_if_any::<T>()?);
+    Some(match within {
+        RangeSetRange::Range(Range { start, end }) => {
+            set.first_fit(start..end, len) == want && view.first_fit(start..end, len) == want
+        }
+        RangeSetRange::RangeFrom(RangeFrom { start }) => {
+            set.first_fit(start.., len) == want && view.first_fit(start.., len) == want
+        }
+    })
 }
 
 // The same of as many as a number says, that at a multiple of another, and the first such run of
 // members.
 fn fitting<T: FromPlace + Word + Drop>(set: RangeSet2<T>, row: &mut Row) -> Option<bool> {
-    let within = row.range::<T>()?;
+    let within = row.any_range::<T>()?;
     let (count, align) = (row.value()?, row.value()?);
     row.equals()?;
     let fit = has_fit(&set, &within, count, row.value_if_any()?);
@@ -173,41 +183,70 @@ fn fitting<T: FromPlace + Word + Drop>(set: RangeSet2<T>, row: &mut Row) -> Opti
     Some(fit && aligned && run)
 }
 
-fn has_fit<T: Countable + Copy>(
+fn has_fit<T: FromPlace>(
     set: &RangeSet2<T>,
-    within: &Range<T>,
+    within: &RangeSetRange<T>,
     count: u128,
     want: Option<T>,
 ) -> bool {
-    let (start, end) = (within.start, within.end);
-    set.first_fit_count(start..end, count) == want
-        && set.as_ref().first_fit_count(start..end, count) == want
+    let view = set.as_ref();
+    match within {
+        RangeSetRange::Range(range) => {
+            let (start, end) = (range.start, range.end);
+            set.first_fit_count(start..end, count) == want
+                && view.first_fit_count(start..end, count) == want
+        }
+        RangeSetRange::RangeFrom(range) => {
+            let start = range.start;
+            set.first_fit_count(start.., count) == want
+                && view.first_fit_count(start.., count) == want
+        }
+    }
 }
 
-fn has_run<T: Countable + Copy>(
+fn has_run<T: FromPlace>(
     set: &RangeSet2<T>,
-    within: &Range<T>,
+    within: &RangeSetRange<T>,
     count: u128,
     want: Option<T>,
 ) -> bool {
-    let (start, end) = (within.start, within.end);
-    set.first_run(start..end, count) == want && set.as_ref().first_run(start..end, count) == want
+    let view = set.as_ref();
+    match within {
+        RangeSetRange::Range(range) => {
+            let (start, end) = (range.start, range.end);
+            set.first_run(start..end, count) == want && view.first_run(start..end, count) == want
+        }
+        RangeSetRange::RangeFrom(range) => {
+            let start = range.start;
+            set.first_run(start.., count) == want && view.first_run(start.., count) == want
+        }
+    }
 }
 
 fn has_aligned_fit<T: FromPlace>(
     set: &RangeSet2<T>,
-    within: &Range<T>,
+    within: &RangeSetRange<T>,
     (count, align): (u128, u128),
     want: Option<T>,
 ) -> bool {
-    let (start, end) = (within.start, within.end);
-    set.first_fit_aligned(start..end, count, align) == want
-        && set.as_ref().first_fit_aligned(start..end, count, align) == want
+    let view = set.as_ref();
+    match within {
+        RangeSetRange::Range(range) => {
+            let (start, end) = (range.start, range.end);
+            set.first_fit_aligned(start..end, count, align) == want
+                && view.first_fit_aligned(start..end, count, align) == want
+        }
+        RangeSetRange::RangeFrom(range) => {
+            let start = range.start;
+            set.first_fit_aligned(start.., count, align) == want
+                && view.first_fit_aligned(start.., count, align) == want
+        }
+    }
 }
 
 // The first multiple of a number where a length fits.
 fn multiples<T: FromPlace + Word + Drop>(set: RangeSet2<T>, row: &mut Row) -> Option<bool> {
-    let within = row.range::<T>()?;
+    let within = row.any_range::<T>()?;
     let numbers = (row.value()?, row.value()?);
     row.equals()?;
     Some(has_aligned_fit(&set, &within, numbers, row.value_if_any()?))

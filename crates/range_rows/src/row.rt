@@ -246,6 +246,11 @@ impl<'a> Row<'a> {
         }
     }
 
+    /// A range, with an end or without.
+    pub fn any_range<T: Word + Drop>(&mut self) -> Option<RangeSetRange<T>> {
+        range_of(self.word()?)
+    }
+
     /// The start of a range without an end.
     pub fn range_from<T: Word + Drop>(&mut self) -> Option<T> {
         match range_of(self.word()?)? {

@@ -1,7 +1,7 @@
 //! Where a stretch of numbers fits beside the members of a set in chunks, from a multiple on, and
 //! where members are in a row.
 ghost use Rattle.std.specs.Prelude.{◌≡◌, ◌<◌, ◌≤◌, ℕ, true, false, IsTrue};
-ghost use Rattle.range_collections.specs.Fits.{IsMultiple, IsRow};
+ghost use Rattle.range_collections.specs.Fits.{IsMultiple, IsFit};
 
 use crate::parts::put;
 use range_chunks::{ChunkedRangeSet, ChunkedSpace};
@@ -17,17 +17,18 @@ pub(crate) fn first_fit_aligned<T: FromPlace>(
     align: u128,
     at: &mut T,
 ) -> bool
-    ensures fits { IsTrue result → IsRow T.cmp T.value false set.old
+    ensures fits { IsTrue result → IsFit T.cmp T.value false set.old
         (T.place within.start) (T.place within.end) count (T.place at.new) }
     ensures aligned { IsTrue result → IsMultiple T.zero align (T.place at.new) }
-    ensures least { IsTrue result → (n : ℕ) → IsMultiple T.zero align n → IsRow T.cmp T.value false set.old
+    ensures least { IsTrue result → (n : ℕ) → IsMultiple T.zero align n → IsFit T.cmp T.value false set.old
         (T.place within.start) (T.place within.end) count n → T.place at.new ≤ n }
     ensures none { result ≡ false → 0 < align → (n : ℕ) → IsMultiple T.zero align n →
-        ¬ (IsRow T.cmp T.value false set.old
+        ¬ (IsFit T.cmp T.value false set.old
         (T.place within.start) (T.place within.end) count n) }
     ensures no_answer { result ≡ false → at.new ≡ at.old }
     ensures unchanged { set.new ≡ set.old }
 {
+    within.end.known();
     put(set.first_fit_aligned(within, count, align), at)
 }
 
@@ -39,11 +40,11 @@ pub(crate) fn first_run<T: Countable + Copy>(
     count: u128,
     at: &mut T,
 ) -> bool
-    ensures fits { IsTrue result → IsRow T.cmp T.value true set.now
+    ensures fits { IsTrue result → IsFit T.cmp T.value true set.now
         (T.place within.start) (T.place within.end) count (T.place at.new) }
-    ensures least { IsTrue result → (n : ℕ) → IsRow T.cmp T.value true set.now
+    ensures least { IsTrue result → (n : ℕ) → IsFit T.cmp T.value true set.now
         (T.place within.start) (T.place within.end) count n → T.place at.new ≤ n }
-    ensures none { result ≡ false → (n : ℕ) → ¬ (IsRow T.cmp T.value true set.now
+    ensures none { result ≡ false → (n : ℕ) → ¬ (IsFit T.cmp T.value true set.now
         (T.place within.start) (T.place within.end) count n) }
     ensures no_answer { result ≡ false → at.new ≡ at.old }
 {

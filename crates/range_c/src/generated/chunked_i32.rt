@@ -5,7 +5,7 @@ ghost use Rattle.std.specs.List.{last_or};
 ghost use Rattle.std.specs.Int.{w32};
 ghost use Rattle.std.specs.Ordering.{int_cmp, is_le, is_lt};
 ghost use Rattle.range_collections.specs.Countable.{signed_place, signed_value};
-ghost use Rattle.range_collections.specs.Fits.{IsMultiple, IsRow};
+ghost use Rattle.range_collections.specs.Fits.{IsFit, IsMultiple};
 ghost use Rattle.range_collections.specs.Boundaries.{IsAscending, member};
 ghost use Rattle.range_collections.specs.Connective.{Means, union_table, difference_table};
 ghost use Rattle.range_collections.specs.Covered.{covered_of, members_below};
@@ -112,7 +112,7 @@ impl ChunkedI32 {
         *self = ChunkedI32::of_parts(Parts::of(set));
     }
 
-    // Puts a set into a box of its own, and that in the place of none. It answers whether there was
+    // Puts a set into a box of its own, and that in the place of none. It returns whether there was
     // memory for it.
     fn fill(&mut self, alloc: Global, set: ChunkedSpace<i32>) -> bool
         requires { self.old.set ≡ None }
@@ -129,7 +129,7 @@ impl ChunkedI32 {
     }
 }
 
-/// Makes an empty set, and answers whether there was memory for it.
+/// Makes an empty set, and returns whether there was memory for it.
 #[unsafe(no_mangle)]
 pub extern "C" fn proved_range_set_i32_chunked_new(set: &mut ChunkedI32, alloc: Global) -> bool
     requires { set.old.set ≡ None }
@@ -139,7 +139,7 @@ pub extern "C" fn proved_range_set_i32_chunked_new(set: &mut ChunkedI32, alloc: 
     set.fill(alloc, ChunkedSpace::new(alloc))
 }
 
-/// Makes a set with the boundaries of a list, and answers whether there was memory for it.
+/// Makes a set with the boundaries of a list, and returns whether there was memory for it.
 #[unsafe(no_mangle)]
 pub extern "C" fn proved_range_set_i32_chunked_of(
     set: &mut ChunkedI32,
@@ -167,7 +167,7 @@ pub extern "C" fn proved_range_set_i32_chunked_free(set: &mut ChunkedI32, alloc:
     let _freed = set.take(alloc);
 }
 
-/// Puts the numbers from `start` to below `end` in, and answers whether there was memory for it. If there was none, the set is as it was.
+/// Puts the numbers from `start` to below `end` in, and returns whether there was memory for it. If there was none, the set is as it was.
 #[unsafe(no_mangle)]
 pub extern "C" fn proved_range_set_i32_chunked_insert(
     set: &mut ChunkedI32,
@@ -186,7 +186,7 @@ pub extern "C" fn proved_range_set_i32_chunked_insert(
     done
 }
 
-/// Puts the numbers from `start` on in, and answers whether there was memory for it. If there was none, the set is as it was.
+/// Puts the numbers from `start` on in, and returns whether there was memory for it. If there was none, the set is as it was.
 #[unsafe(no_mangle)]
 pub extern "C" fn proved_range_set_i32_chunked_insert_from(
     set: &mut ChunkedI32,
@@ -204,7 +204,7 @@ pub extern "C" fn proved_range_set_i32_chunked_insert_from(
     done
 }
 
-/// Takes the numbers from `start` to below `end` out, and answers whether there was memory for it. If there was none, the set is as it was.
+/// Takes the numbers from `start` to below `end` out, and returns whether there was memory for it. If there was none, the set is as it was.
 #[unsafe(no_mangle)]
 pub extern "C" fn proved_range_set_i32_chunked_remove(
     set: &mut ChunkedI32,
@@ -223,7 +223,7 @@ pub extern "C" fn proved_range_set_i32_chunked_remove(
     done
 }
 
-/// Takes the numbers from `start` on out, and answers whether there was memory for it. If there was none, the set is as it was.
+/// Takes the numbers from `start` on out, and returns whether there was memory for it. If there was none, the set is as it was.
 #[unsafe(no_mangle)]
 pub extern "C" fn proved_range_set_i32_chunked_remove_from(
     set: &mut ChunkedI32,
@@ -241,7 +241,7 @@ pub extern "C" fn proved_range_set_i32_chunked_remove_from(
     done
 }
 
-/// Puts the members of a list in, and answers whether there was memory for it. If there was none, the set is as it was.
+/// Puts the members of a list in, and returns whether there was memory for it. If there was none, the set is as it was.
 #[unsafe(no_mangle)]
 pub extern "C" fn proved_range_set_i32_chunked_insert_all(
     set: &mut ChunkedI32,
@@ -261,7 +261,7 @@ pub extern "C" fn proved_range_set_i32_chunked_insert_all(
     done
 }
 
-/// Takes the members of a list out, and answers whether there was memory for it. If there was none, the set is as it was.
+/// Takes the members of a list out, and returns whether there was memory for it. If there was none, the set is as it was.
 #[unsafe(no_mangle)]
 pub extern "C" fn proved_range_set_i32_chunked_remove_all(
     set: &mut ChunkedI32,
@@ -468,7 +468,7 @@ pub extern "C" fn proved_range_set_i32_chunked_last(
     answer
 }
 
-/// Writes the boundaries of the ranges that share a number with the one from `start` to below `end` to the front of `out`, of as many ranges as have room for two, and answers how many boundaries these are.
+/// Writes the boundaries of the ranges that share a number with the one from `start` to below `end` to the front of `out`, of as many ranges as have room for two, and returns how many boundaries these are.
 #[unsafe(no_mangle)]
 pub extern "C" fn proved_range_set_i32_chunked_overlapping(
     set: &mut ChunkedI32,
@@ -636,9 +636,9 @@ pub extern "C" fn proved_range_set_i32_chunked_first_fit(
     at: &mut i32,
 ) -> bool
     requires { IsSome set.old.set }
-    ensures fits { IsTrue result → IsRow int_cmp (signed_value (2 ^ 31)) false (held set.old.set) (signed_place (2 ^ 31) start) (signed_place (2 ^ 31) end) count (signed_place (2 ^ 31) at.new) }
-    ensures least { IsTrue result → (n : ℕ) → IsRow int_cmp (signed_value (2 ^ 31)) false (held set.old.set) (signed_place (2 ^ 31) start) (signed_place (2 ^ 31) end) count n → signed_place (2 ^ 31) at.new ≤ n }
-    ensures none { result ≡ false → (n : ℕ) → ¬ (IsRow int_cmp (signed_value (2 ^ 31)) false (held set.old.set) (signed_place (2 ^ 31) start) (signed_place (2 ^ 31) end) count n) }
+    ensures fits { IsTrue result → IsFit int_cmp (signed_value (2 ^ 31)) false (held set.old.set) (signed_place (2 ^ 31) start) (signed_place (2 ^ 31) end) count (signed_place (2 ^ 31) at.new) }
+    ensures least { IsTrue result → (n : ℕ) → IsFit int_cmp (signed_value (2 ^ 31)) false (held set.old.set) (signed_place (2 ^ 31) start) (signed_place (2 ^ 31) end) count n → signed_place (2 ^ 31) at.new ≤ n }
+    ensures none { result ≡ false → (n : ℕ) → ¬ (IsFit int_cmp (signed_value (2 ^ 31)) false (held set.old.set) (signed_place (2 ^ 31) start) (signed_place (2 ^ 31) end) count n) }
     ensures no_answer { result ≡ false → at.new ≡ at.old }
     ensures unchanged { set.new.set ≡ set.old.set }
 {
@@ -660,10 +660,10 @@ pub extern "C" fn proved_range_set_i32_chunked_first_fit_aligned(
     at: &mut i32,
 ) -> bool
     requires { IsSome set.old.set }
-    ensures fits { IsTrue result → IsRow int_cmp (signed_value (2 ^ 31)) false (held set.old.set) (signed_place (2 ^ 31) start) (signed_place (2 ^ 31) end) count (signed_place (2 ^ 31) at.new) }
+    ensures fits { IsTrue result → IsFit int_cmp (signed_value (2 ^ 31)) false (held set.old.set) (signed_place (2 ^ 31) start) (signed_place (2 ^ 31) end) count (signed_place (2 ^ 31) at.new) }
     ensures aligned { IsTrue result → IsMultiple (2 ^ 31) align (signed_place (2 ^ 31) at.new) }
-    ensures least { IsTrue result → (n : ℕ) → IsMultiple (2 ^ 31) align n → IsRow int_cmp (signed_value (2 ^ 31)) false (held set.old.set) (signed_place (2 ^ 31) start) (signed_place (2 ^ 31) end) count n → signed_place (2 ^ 31) at.new ≤ n }
-    ensures none { result ≡ false → 0 < align → (n : ℕ) → IsMultiple (2 ^ 31) align n → ¬ (IsRow int_cmp (signed_value (2 ^ 31)) false (held set.old.set) (signed_place (2 ^ 31) start) (signed_place (2 ^ 31) end) count n) }
+    ensures least { IsTrue result → (n : ℕ) → IsMultiple (2 ^ 31) align n → IsFit int_cmp (signed_value (2 ^ 31)) false (held set.old.set) (signed_place (2 ^ 31) start) (signed_place (2 ^ 31) end) count n → signed_place (2 ^ 31) at.new ≤ n }
+    ensures none { result ≡ false → 0 < align → (n : ℕ) → IsMultiple (2 ^ 31) align n → ¬ (IsFit int_cmp (signed_value (2 ^ 31)) false (held set.old.set) (signed_place (2 ^ 31) start) (signed_place (2 ^ 31) end) count n) }
     ensures no_answer { result ≡ false → at.new ≡ at.old }
     ensures unchanged { set.new.set ≡ set.old.set }
 {
@@ -690,9 +690,9 @@ pub extern "C" fn proved_range_set_i32_chunked_first_run(
     at: &mut i32,
 ) -> bool
     requires { IsSome set.old.set }
-    ensures fits { IsTrue result → IsRow int_cmp (signed_value (2 ^ 31)) true (held set.old.set) (signed_place (2 ^ 31) start) (signed_place (2 ^ 31) end) count (signed_place (2 ^ 31) at.new) }
-    ensures least { IsTrue result → (n : ℕ) → IsRow int_cmp (signed_value (2 ^ 31)) true (held set.old.set) (signed_place (2 ^ 31) start) (signed_place (2 ^ 31) end) count n → signed_place (2 ^ 31) at.new ≤ n }
-    ensures none { result ≡ false → (n : ℕ) → ¬ (IsRow int_cmp (signed_value (2 ^ 31)) true (held set.old.set) (signed_place (2 ^ 31) start) (signed_place (2 ^ 31) end) count n) }
+    ensures fits { IsTrue result → IsFit int_cmp (signed_value (2 ^ 31)) true (held set.old.set) (signed_place (2 ^ 31) start) (signed_place (2 ^ 31) end) count (signed_place (2 ^ 31) at.new) }
+    ensures least { IsTrue result → (n : ℕ) → IsFit int_cmp (signed_value (2 ^ 31)) true (held set.old.set) (signed_place (2 ^ 31) start) (signed_place (2 ^ 31) end) count n → signed_place (2 ^ 31) at.new ≤ n }
+    ensures none { result ≡ false → (n : ℕ) → ¬ (IsFit int_cmp (signed_value (2 ^ 31)) true (held set.old.set) (signed_place (2 ^ 31) start) (signed_place (2 ^ 31) end) count n) }
     ensures no_answer { result ≡ false → at.new ≡ at.old }
     ensures unchanged { set.new.set ≡ set.old.set }
 {
@@ -734,7 +734,7 @@ pub extern "C" fn proved_range_set_i32_chunked_boundaries_len(
     answer
 }
 
-/// Writes the boundaries to the front of `out`, if it has room for them, and answers how many there are.
+/// Writes the boundaries to the front of `out`, if it has room for them, and returns how many there are.
 #[unsafe(no_mangle)]
 pub extern "C" fn proved_range_set_i32_chunked_copy(
     set: &mut ChunkedI32,

@@ -3,7 +3,7 @@
 ghost use Rattle.std.specs.Prelude.{◌≡◌, ◌↔◌, ◌<◌, ◌≤◌, ◌^◌, ◌-◌, ℕ, List, [], ◌∷◌, Option, Some, None, IsSome, IsTrue, OnErr, OnOk, Contains, true, false, length, filter, slice_get};
 ghost use Rattle.std.specs.List.{last_or};
 ghost use Rattle.std.specs.Ordering.{nat_cmp, is_le, is_lt};
-ghost use Rattle.range_collections.specs.Fits.{IsMultiple, IsRow};
+ghost use Rattle.range_collections.specs.Fits.{IsFit, IsMultiple};
 ghost use Rattle.range_collections.specs.Boundaries.{IsAscending, member};
 ghost use Rattle.range_collections.specs.Connective.{Means, union_table, difference_table};
 ghost use Rattle.range_collections.specs.Covered.{covered_of, members_below};
@@ -110,7 +110,7 @@ impl ChunkedU32 {
         *self = ChunkedU32::of_parts(Parts::of(set));
     }
 
-    // Puts a set into a box of its own, and that in the place of none. It answers whether there was
+    // Puts a set into a box of its own, and that in the place of none. It returns whether there was
     // memory for it.
     fn fill(&mut self, alloc: Global, set: ChunkedSpace<u32>) -> bool
         requires { self.old.set ≡ None }
@@ -127,7 +127,7 @@ impl ChunkedU32 {
     }
 }
 
-/// Makes an empty set, and answers whether there was memory for it.
+/// Makes an empty set, and returns whether there was memory for it.
 #[unsafe(no_mangle)]
 pub extern "C" fn proved_range_set_u32_chunked_new(set: &mut ChunkedU32, alloc: Global) -> bool
     requires { set.old.set ≡ None }
@@ -137,7 +137,7 @@ pub extern "C" fn proved_range_set_u32_chunked_new(set: &mut ChunkedU32, alloc: 
     set.fill(alloc, ChunkedSpace::new(alloc))
 }
 
-/// Makes a set with the boundaries of a list, and answers whether there was memory for it.
+/// Makes a set with the boundaries of a list, and returns whether there was memory for it.
 #[unsafe(no_mangle)]
 pub extern "C" fn proved_range_set_u32_chunked_of(
     set: &mut ChunkedU32,
@@ -165,7 +165,7 @@ pub extern "C" fn proved_range_set_u32_chunked_free(set: &mut ChunkedU32, alloc:
     let _freed = set.take(alloc);
 }
 
-/// Puts the numbers from `start` to below `end` in, and answers whether there was memory for it. If there was none, the set is as it was.
+/// Puts the numbers from `start` to below `end` in, and returns whether there was memory for it. If there was none, the set is as it was.
 #[unsafe(no_mangle)]
 pub extern "C" fn proved_range_set_u32_chunked_insert(
     set: &mut ChunkedU32,
@@ -184,7 +184,7 @@ pub extern "C" fn proved_range_set_u32_chunked_insert(
     done
 }
 
-/// Puts the numbers from `start` on in, and answers whether there was memory for it. If there was none, the set is as it was.
+/// Puts the numbers from `start` on in, and returns whether there was memory for it. If there was none, the set is as it was.
 #[unsafe(no_mangle)]
 pub extern "C" fn proved_range_set_u32_chunked_insert_from(
     set: &mut ChunkedU32,
@@ -202,7 +202,7 @@ pub extern "C" fn proved_range_set_u32_chunked_insert_from(
     done
 }
 
-/// Takes the numbers from `start` to below `end` out, and answers whether there was memory for it. If there was none, the set is as it was.
+/// Takes the numbers from `start` to below `end` out, and returns whether there was memory for it. If there was none, the set is as it was.
 #[unsafe(no_mangle)]
 pub extern "C" fn proved_range_set_u32_chunked_remove(
     set: &mut ChunkedU32,
@@ -221,7 +221,7 @@ pub extern "C" fn proved_range_set_u32_chunked_remove(
     done
 }
 
-/// Takes the numbers from `start` on out, and answers whether there was memory for it. If there was none, the set is as it was.
+/// Takes the numbers from `start` on out, and returns whether there was memory for it. If there was none, the set is as it was.
 #[unsafe(no_mangle)]
 pub extern "C" fn proved_range_set_u32_chunked_remove_from(
     set: &mut ChunkedU32,
@@ -239,7 +239,7 @@ pub extern "C" fn proved_range_set_u32_chunked_remove_from(
     done
 }
 
-/// Puts the members of a list in, and answers whether there was memory for it. If there was none, the set is as it was.
+/// Puts the members of a list in, and returns whether there was memory for it. If there was none, the set is as it was.
 #[unsafe(no_mangle)]
 pub extern "C" fn proved_range_set_u32_chunked_insert_all(
     set: &mut ChunkedU32,
@@ -259,7 +259,7 @@ pub extern "C" fn proved_range_set_u32_chunked_insert_all(
     done
 }
 
-/// Takes the members of a list out, and answers whether there was memory for it. If there was none, the set is as it was.
+/// Takes the members of a list out, and returns whether there was memory for it. If there was none, the set is as it was.
 #[unsafe(no_mangle)]
 pub extern "C" fn proved_range_set_u32_chunked_remove_all(
     set: &mut ChunkedU32,
@@ -466,7 +466,7 @@ pub extern "C" fn proved_range_set_u32_chunked_last(
     answer
 }
 
-/// Writes the boundaries of the ranges that share a number with the one from `start` to below `end` to the front of `out`, of as many ranges as have room for two, and answers how many boundaries these are.
+/// Writes the boundaries of the ranges that share a number with the one from `start` to below `end` to the front of `out`, of as many ranges as have room for two, and returns how many boundaries these are.
 #[unsafe(no_mangle)]
 pub extern "C" fn proved_range_set_u32_chunked_overlapping(
     set: &mut ChunkedU32,
@@ -634,9 +634,9 @@ pub extern "C" fn proved_range_set_u32_chunked_first_fit(
     at: &mut u32,
 ) -> bool
     requires { IsSome set.old.set }
-    ensures fits { IsTrue result → IsRow nat_cmp (λ n. n) false (held set.old.set) start end count (at.new) }
-    ensures least { IsTrue result → (n : ℕ) → IsRow nat_cmp (λ n. n) false (held set.old.set) start end count n → at.new ≤ n }
-    ensures none { result ≡ false → (n : ℕ) → ¬ (IsRow nat_cmp (λ n. n) false (held set.old.set) start end count n) }
+    ensures fits { IsTrue result → IsFit nat_cmp (λ n. n) false (held set.old.set) start end count (at.new) }
+    ensures least { IsTrue result → (n : ℕ) → IsFit nat_cmp (λ n. n) false (held set.old.set) start end count n → at.new ≤ n }
+    ensures none { result ≡ false → (n : ℕ) → ¬ (IsFit nat_cmp (λ n. n) false (held set.old.set) start end count n) }
     ensures no_answer { result ≡ false → at.new ≡ at.old }
     ensures unchanged { set.new.set ≡ set.old.set }
 {
@@ -658,10 +658,10 @@ pub extern "C" fn proved_range_set_u32_chunked_first_fit_aligned(
     at: &mut u32,
 ) -> bool
     requires { IsSome set.old.set }
-    ensures fits { IsTrue result → IsRow nat_cmp (λ n. n) false (held set.old.set) start end count (at.new) }
+    ensures fits { IsTrue result → IsFit nat_cmp (λ n. n) false (held set.old.set) start end count (at.new) }
     ensures aligned { IsTrue result → IsMultiple 0 align (at.new) }
-    ensures least { IsTrue result → (n : ℕ) → IsMultiple 0 align n → IsRow nat_cmp (λ n. n) false (held set.old.set) start end count n → at.new ≤ n }
-    ensures none { result ≡ false → 0 < align → (n : ℕ) → IsMultiple 0 align n → ¬ (IsRow nat_cmp (λ n. n) false (held set.old.set) start end count n) }
+    ensures least { IsTrue result → (n : ℕ) → IsMultiple 0 align n → IsFit nat_cmp (λ n. n) false (held set.old.set) start end count n → at.new ≤ n }
+    ensures none { result ≡ false → 0 < align → (n : ℕ) → IsMultiple 0 align n → ¬ (IsFit nat_cmp (λ n. n) false (held set.old.set) start end count n) }
     ensures no_answer { result ≡ false → at.new ≡ at.old }
     ensures unchanged { set.new.set ≡ set.old.set }
 {
@@ -688,9 +688,9 @@ pub extern "C" fn proved_range_set_u32_chunked_first_run(
     at: &mut u32,
 ) -> bool
     requires { IsSome set.old.set }
-    ensures fits { IsTrue result → IsRow nat_cmp (λ n. n) true (held set.old.set) start end count (at.new) }
-    ensures least { IsTrue result → (n : ℕ) → IsRow nat_cmp (λ n. n) true (held set.old.set) start end count n → at.new ≤ n }
-    ensures none { result ≡ false → (n : ℕ) → ¬ (IsRow nat_cmp (λ n. n) true (held set.old.set) start end count n) }
+    ensures fits { IsTrue result → IsFit nat_cmp (λ n. n) true (held set.old.set) start end count (at.new) }
+    ensures least { IsTrue result → (n : ℕ) → IsFit nat_cmp (λ n. n) true (held set.old.set) start end count n → at.new ≤ n }
+    ensures none { result ≡ false → (n : ℕ) → ¬ (IsFit nat_cmp (λ n. n) true (held set.old.set) start end count n) }
     ensures no_answer { result ≡ false → at.new ≡ at.old }
     ensures unchanged { set.new.set ≡ set.old.set }
 {
@@ -732,7 +732,7 @@ pub extern "C" fn proved_range_set_u32_chunked_boundaries_len(
     answer
 }
 
-/// Writes the boundaries to the front of `out`, if it has room for them, and answers how many there are.
+/// Writes the boundaries to the front of `out`, if it has room for them, and returns how many there are.
 #[unsafe(no_mangle)]
 pub extern "C" fn proved_range_set_u32_chunked_copy(
     set: &mut ChunkedU32,

@@ -93,7 +93,7 @@ impl MappedI64 {
         *self = MappedI64::of_parts(Parts::of(map));
     }
 
-    // Puts a map into a box of its own, and that in the place of none. It answers whether there was
+    // Puts a map into a box of its own, and that in the place of none. It returns whether there was
     // memory for it.
     fn fill(&mut self, alloc: Global, map: RangeMap<i64, u64>) -> bool
         requires { self.old.map ≡ None }
@@ -110,7 +110,7 @@ impl MappedI64 {
     }
 }
 
-/// Makes an empty map, and answers whether there was memory for it.
+/// Makes an empty map, and returns whether there was memory for it.
 #[unsafe(no_mangle)]
 pub extern "C" fn proved_range_map_i64_new(map: &mut MappedI64, alloc: Global) -> bool
     requires { map.old.map ≡ None }
@@ -121,7 +121,7 @@ pub extern "C" fn proved_range_map_i64_new(map: &mut MappedI64, alloc: Global) -
     map.fill(alloc, RangeMap::new(alloc))
 }
 
-/// Makes a map of the same values as `from`, and answers whether there was memory for it.
+/// Makes a map of the same values as `from`, and returns whether there was memory for it.
 #[unsafe(no_mangle)]
 pub extern "C" fn proved_range_map_i64_copy(
     map: &mut MappedI64,
@@ -154,7 +154,7 @@ pub extern "C" fn proved_range_map_i64_free(map: &mut MappedI64, alloc: Global)
     let _freed = map.take(alloc);
 }
 
-/// Gives the keys from `start` to below `end` the value, and answers whether there was memory for it. If there was none, the map is as it was.
+/// Gives the keys from `start` to below `end` the value, and returns whether there was memory for it. If there was none, the map is as it was.
 #[unsafe(no_mangle)]
 pub extern "C" fn proved_range_map_i64_insert(
     map: &mut MappedI64,
@@ -174,7 +174,7 @@ pub extern "C" fn proved_range_map_i64_insert(
     done
 }
 
-/// Gives the keys from `start` on the value, and answers whether there was memory for it. If there was none, the map is as it was.
+/// Gives the keys from `start` on the value, and returns whether there was memory for it. If there was none, the map is as it was.
 #[unsafe(no_mangle)]
 pub extern "C" fn proved_range_map_i64_insert_from(
     map: &mut MappedI64,
@@ -193,7 +193,7 @@ pub extern "C" fn proved_range_map_i64_insert_from(
     done
 }
 
-/// Takes the values of the keys from `start` to below `end` away, and answers whether there was memory for it. If there was none, the map is as it was.
+/// Takes the values of the keys from `start` to below `end` away, and returns whether there was memory for it. If there was none, the map is as it was.
 #[unsafe(no_mangle)]
 pub extern "C" fn proved_range_map_i64_remove(
     map: &mut MappedI64,
@@ -212,7 +212,7 @@ pub extern "C" fn proved_range_map_i64_remove(
     done
 }
 
-/// Takes the values of the keys from `start` on away, and answers whether there was memory for it. If there was none, the map is as it was.
+/// Takes the values of the keys from `start` on away, and returns whether there was memory for it. If there was none, the map is as it was.
 #[unsafe(no_mangle)]
 pub extern "C" fn proved_range_map_i64_remove_from(
     map: &mut MappedI64,

@@ -7,7 +7,7 @@ ghost use Rattle.std.specs.Fmt.{signed_decimal};
 ghost use Rattle.std.specs.Int.{w32};
 ghost use Rattle.std.specs.Ordering.{int_cmp, is_le, is_lt};
 ghost use Rattle.range_collections.specs.Countable.{signed_place, signed_value};
-ghost use Rattle.range_collections.specs.Fits.{IsRow, IsFirstFit, IsMultiple};
+ghost use Rattle.range_collections.specs.Fits.{IsFit, IsFirstFit, IsMultiple};
 ghost use Rattle.range_collections.specs.Boundaries.{IsAscending, IsSameSet, member};
 ghost use Rattle.range_collections.specs.Connective.{union_table, difference_table, symmetric_difference_table};
 ghost use Rattle.range_collections.specs.Covered.{covered_of, members_below};
@@ -143,7 +143,7 @@ pub extern "C" fn proved_range_set_i32_equal(a: &[i32], b: &[i32]) -> bool
     RangeSetRef::new_unchecked(a) == RangeSetRef::new_unchecked(b)
 }
 
-/// Writes what the connective makes of both sets, and answers how many boundaries that is. It has to be off where neither side is on.
+/// Writes what the connective makes of both sets, and returns how many boundaries that is. It has to be off where neither side is on.
 #[unsafe(no_mangle)]
 pub extern "C" fn proved_range_set_i32_combine(
     a: &[i32],
@@ -159,7 +159,7 @@ pub extern "C" fn proved_range_set_i32_combine(
     combine(a, b, connective, out)
 }
 
-/// Writes what the connective makes of both sets among all numbers of the type, and answers how many boundaries that is. It may be on where neither side is.
+/// Writes what the connective makes of both sets among all numbers of the type, and returns how many boundaries that is. It may be on where neither side is.
 #[unsafe(no_mangle)]
 pub extern "C" fn proved_range_set_i32_combine_from(
     a: &[i32],
@@ -186,7 +186,7 @@ pub extern "C" fn proved_range_set_i32_negation(a: &[i32], out: &mut [i32]) -> u
     merge(a, &[i32::MIN], &XorOp, out)
 }
 
-/// Puts the numbers from `start` to below `end` into the set of the first `len` boundaries, and answers how many it has then. Where the buffer has no room for them it is as it was.
+/// Puts the numbers from `start` to below `end` into the set of the first `len` boundaries, and returns how many it has then. Where the buffer has no room for them it is as it was.
 #[unsafe(no_mangle)]
 pub extern "C" fn proved_range_set_i32_insert(
     buffer: &mut [i32],
@@ -203,7 +203,7 @@ pub extern "C" fn proved_range_set_i32_insert(
     insert(buffer, len, start, end)
 }
 
-/// Takes the numbers from `start` to below `end` out of the set of the first `len` boundaries, and answers how many it has then. Where the buffer has no room for them it is as it was.
+/// Takes the numbers from `start` to below `end` out of the set of the first `len` boundaries, and returns how many it has then. Where the buffer has no room for them it is as it was.
 #[unsafe(no_mangle)]
 pub extern "C" fn proved_range_set_i32_remove(
     buffer: &mut [i32],
@@ -220,7 +220,7 @@ pub extern "C" fn proved_range_set_i32_remove(
     remove(buffer, len, start, end)
 }
 
-/// Leaves in the buffer what the connective makes of the set of its first `len` boundaries and another, and answers how many boundaries that is; where there is no room for that set and the result, the room that both take, and the buffer is as it was. The connective has to be off where neither side is on.
+/// Leaves in the buffer what the connective makes of the set of its first `len` boundaries and another, and returns how many boundaries that is; where there is no room for that set and the result, the room that both take, and the buffer is as it was. The connective has to be off where neither side is on.
 #[unsafe(no_mangle)]
 pub extern "C" fn proved_range_set_i32_combine_within(
     buffer: &mut [i32],
@@ -488,10 +488,10 @@ pub extern "C" fn proved_range_set_i32_first_fit_aligned(
     at: &mut i32,
 ) -> bool
     requires { IsAscending int_cmp a.now }
-    ensures fits { IsTrue result → IsRow int_cmp (signed_value (2 ^ 31)) false a.now (signed_place (2 ^ 31) start) (signed_place (2 ^ 31) end) count (signed_place (2 ^ 31) at.new) }
+    ensures fits { IsTrue result → IsFit int_cmp (signed_value (2 ^ 31)) false a.now (signed_place (2 ^ 31) start) (signed_place (2 ^ 31) end) count (signed_place (2 ^ 31) at.new) }
     ensures aligned { IsTrue result → IsMultiple (2 ^ 31) align (signed_place (2 ^ 31) at.new) }
-    ensures least { IsTrue result → (n : ℕ) → IsMultiple (2 ^ 31) align n → IsRow int_cmp (signed_value (2 ^ 31)) false a.now (signed_place (2 ^ 31) start) (signed_place (2 ^ 31) end) count n → signed_place (2 ^ 31) at.new ≤ n }
-    ensures none { result ≡ false → 0 < align → (n : ℕ) → IsMultiple (2 ^ 31) align n → ¬ (IsRow int_cmp (signed_value (2 ^ 31)) false a.now (signed_place (2 ^ 31) start) (signed_place (2 ^ 31) end) count n) }
+    ensures least { IsTrue result → (n : ℕ) → IsMultiple (2 ^ 31) align n → IsFit int_cmp (signed_value (2 ^ 31)) false a.now (signed_place (2 ^ 31) start) (signed_place (2 ^ 31) end) count n → signed_place (2 ^ 31) at.new ≤ n }
+    ensures none { result ≡ false → 0 < align → (n : ℕ) → IsMultiple (2 ^ 31) align n → ¬ (IsFit int_cmp (signed_value (2 ^ 31)) false a.now (signed_place (2 ^ 31) start) (signed_place (2 ^ 31) end) count n) }
     ensures unchanged { result ≡ false → at.new ≡ at.old }
 {
     first_fit_aligned(a, start..end, u128::from(count), u128::from(align), at)
@@ -507,15 +507,15 @@ pub extern "C" fn proved_range_set_i32_first_run(
     at: &mut i32,
 ) -> bool
     requires { IsAscending int_cmp a.now }
-    ensures fits { IsTrue result → IsRow int_cmp (signed_value (2 ^ 31)) true a.now (signed_place (2 ^ 31) start) (signed_place (2 ^ 31) end) count (signed_place (2 ^ 31) at.new) }
-    ensures least { IsTrue result → (n : ℕ) → IsRow int_cmp (signed_value (2 ^ 31)) true a.now (signed_place (2 ^ 31) start) (signed_place (2 ^ 31) end) count n → signed_place (2 ^ 31) at.new ≤ n }
-    ensures none { result ≡ false → (n : ℕ) → ¬ (IsRow int_cmp (signed_value (2 ^ 31)) true a.now (signed_place (2 ^ 31) start) (signed_place (2 ^ 31) end) count n) }
+    ensures fits { IsTrue result → IsFit int_cmp (signed_value (2 ^ 31)) true a.now (signed_place (2 ^ 31) start) (signed_place (2 ^ 31) end) count (signed_place (2 ^ 31) at.new) }
+    ensures least { IsTrue result → (n : ℕ) → IsFit int_cmp (signed_value (2 ^ 31)) true a.now (signed_place (2 ^ 31) start) (signed_place (2 ^ 31) end) count n → signed_place (2 ^ 31) at.new ≤ n }
+    ensures none { result ≡ false → (n : ℕ) → ¬ (IsFit int_cmp (signed_value (2 ^ 31)) true a.now (signed_place (2 ^ 31) start) (signed_place (2 ^ 31) end) count n) }
     ensures unchanged { result ≡ false → at.new ≡ at.old }
 {
     first_run(a, start..end, u128::from(count), at)
 }
 
-/// Sorts the numbers, in any order, and moves the distinct ones to the front, as many as it answers.
+/// Sorts the numbers, in any order, and moves the distinct ones to the front, as many as it returns.
 #[unsafe(no_mangle)]
 pub extern "C" fn proved_range_set_i32_from_unsorted(items: &mut [i32]) -> usize
     ensures within { result ≤ length items.old }
@@ -554,7 +554,7 @@ impl Ends for RangeI32 {
     }
 }
 
-/// Moves the ranges of the set of all numbers in the ranges to the front, as many as it answers. They may stand in any order, overlap and touch; empty and reversed ones have no number.
+/// Moves the ranges of the set of all numbers in the ranges to the front, as many as it returns. They may stand in any order, overlap and touch; empty and reversed ones have no number.
 #[unsafe(no_mangle)]
 pub extern "C" fn proved_range_set_i32_from_ranges(ranges: &mut [RangeI32]) -> usize
     ensures within { result ≤ length ranges.old }
@@ -564,7 +564,7 @@ pub extern "C" fn proved_range_set_i32_from_ranges(ranges: &mut [RangeI32]) -> u
     from_ranges(ranges)
 }
 
-/// Moves the ranges with an end of the set of all numbers in the ranges and, if `is_open`, of all from `from` on, to the front, and answers how many these are. If `is_open`, it writes to `from` where the range without an end starts.
+/// Moves the ranges with an end of the set of all numbers in the ranges and, if `is_open`, of all from `from` on, to the front, and returns how many these are. If `is_open`, it writes to `from` where the range without an end starts.
 #[unsafe(no_mangle)]
 pub extern "C" fn proved_range_set_i32_union_from(
     ranges: &mut [RangeI32],
@@ -579,7 +579,7 @@ pub extern "C" fn proved_range_set_i32_union_from(
     union_told(ranges, is_open, from)
 }
 
-/// Writes the ranges as a text, `0..10, 20..`, where the buffer has room for it, and answers how many bytes that is. Where it has no room the buffer is as it was.
+/// Writes the ranges as a text, `0..10, 20..`, where the buffer has room for it, and returns how many bytes that is. Where it has no room the buffer is as it was.
 #[unsafe(no_mangle)]
 pub extern "C" fn proved_range_set_i32_print(a: &[i32], out: &mut [u8]) -> usize
     requires sorted { IsAscending int_cmp a.now }
@@ -589,7 +589,7 @@ pub extern "C" fn proved_range_set_i32_print(a: &[i32], out: &mut [u8]) -> usize
     print(a, out)
 }
 
-/// Answers 0 if the bytes are a text of ranges, as `0..10, 20..`, and writes how many numbers it has. Else it answers 1 and writes the byte at which they stop being one, 2 if a number doesn't fit the type, or 3 and writes the byte from which on they aren't UTF-8.
+/// Returns 0 if the bytes are a text of ranges, as `0..10, 20..`, and writes how many numbers it has. Else it returns 1 and writes the byte at which they stop being one, 2 if a number doesn't fit the type, or 3 and writes the byte from which on they aren't UTF-8.
 #[unsafe(no_mangle)]
 pub extern "C" fn proved_range_set_i32_check_text(text: &[u8], told: &mut usize) -> u32
     requires fits { numbers_in (signed_number 31) text.now < 2 ^ 64 }
@@ -598,7 +598,7 @@ pub extern "C" fn proved_range_set_i32_check_text(text: &[u8], told: &mut usize)
     check::<i32>(text, told)
 }
 
-/// Leaves the ranges with an end of the set of a text's ranges at the front of the buffer, and answers how many these are. It writes whether the set has a range without an end after them, and if so where that starts.
+/// Leaves the ranges with an end of the set of a text's ranges at the front of the buffer, and returns how many these are. It writes whether the set has a range without an end after them, and if so where that starts.
 #[unsafe(no_mangle)]
 pub extern "C" fn proved_range_set_i32_parse(
     text: &[u8],

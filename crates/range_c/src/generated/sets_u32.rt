@@ -4,7 +4,7 @@ ghost use Rattle.std.specs.Prelude.{◌≡◌, ◌↔◌, ◌+◌, ◌*◌, ◌<
 ghost use Rattle.std.specs.List.{last_or};
 ghost use Rattle.std.specs.Str.{IsUtf8};
 ghost use Rattle.std.specs.Ordering.{nat_cmp, is_le, is_lt};
-ghost use Rattle.range_collections.specs.Fits.{Fits, IsMultiple, IsRow};
+ghost use Rattle.range_collections.specs.Fits.{Fits, IsFit, IsMultiple};
 ghost use Rattle.range_collections.specs.Boundaries.{IsAscending, IsSameSet, member};
 ghost use Rattle.range_collections.specs.Connective.{union_table, difference_table, symmetric_difference_table};
 ghost use Rattle.range_collections.specs.Covered.{covered_of, members_below};
@@ -142,7 +142,7 @@ pub extern "C" fn proved_range_set_u32_equal(a: &[u32], b: &[u32]) -> bool
     RangeSetRef::new_unchecked(a) == RangeSetRef::new_unchecked(b)
 }
 
-/// Writes what the connective makes of both sets, and answers how many boundaries that is. It has to be off where neither side is on.
+/// Writes what the connective makes of both sets, and returns how many boundaries that is. It has to be off where neither side is on.
 #[unsafe(no_mangle)]
 pub extern "C" fn proved_range_set_u32_combine(
     a: &[u32],
@@ -158,7 +158,7 @@ pub extern "C" fn proved_range_set_u32_combine(
     combine(a, b, connective, out)
 }
 
-/// Writes what the connective makes of both sets among all numbers of the type, and answers how many boundaries that is. It may be on where neither side is.
+/// Writes what the connective makes of both sets among all numbers of the type, and returns how many boundaries that is. It may be on where neither side is.
 #[unsafe(no_mangle)]
 pub extern "C" fn proved_range_set_u32_combine_from(
     a: &[u32],
@@ -185,7 +185,7 @@ pub extern "C" fn proved_range_set_u32_negation(a: &[u32], out: &mut [u32]) -> u
     merge(a, &[u32::MIN], &XorOp, out)
 }
 
-/// Puts the numbers from `start` to below `end` into the set of the first `len` boundaries, and answers how many it has then. Where the buffer has no room for them it is as it was.
+/// Puts the numbers from `start` to below `end` into the set of the first `len` boundaries, and returns how many it has then. Where the buffer has no room for them it is as it was.
 #[unsafe(no_mangle)]
 pub extern "C" fn proved_range_set_u32_insert(
     buffer: &mut [u32],
@@ -202,7 +202,7 @@ pub extern "C" fn proved_range_set_u32_insert(
     insert(buffer, len, start, end)
 }
 
-/// Takes the numbers from `start` to below `end` out of the set of the first `len` boundaries, and answers how many it has then. Where the buffer has no room for them it is as it was.
+/// Takes the numbers from `start` to below `end` out of the set of the first `len` boundaries, and returns how many it has then. Where the buffer has no room for them it is as it was.
 #[unsafe(no_mangle)]
 pub extern "C" fn proved_range_set_u32_remove(
     buffer: &mut [u32],
@@ -219,7 +219,7 @@ pub extern "C" fn proved_range_set_u32_remove(
     remove(buffer, len, start, end)
 }
 
-/// Leaves in the buffer what the connective makes of the set of its first `len` boundaries and another, and answers how many boundaries that is; where there is no room for that set and the result, the room that both take, and the buffer is as it was. The connective has to be off where neither side is on.
+/// Leaves in the buffer what the connective makes of the set of its first `len` boundaries and another, and returns how many boundaries that is; where there is no room for that set and the result, the room that both take, and the buffer is as it was. The connective has to be off where neither side is on.
 #[unsafe(no_mangle)]
 pub extern "C" fn proved_range_set_u32_combine_within(
     buffer: &mut [u32],
@@ -485,10 +485,10 @@ pub extern "C" fn proved_range_set_u32_first_fit_aligned(
     at: &mut u32,
 ) -> bool
     requires { IsAscending nat_cmp a.now }
-    ensures fits { IsTrue result → IsRow nat_cmp (λ n. n) false a.now start end count (at.new) }
+    ensures fits { IsTrue result → IsFit nat_cmp (λ n. n) false a.now start end count (at.new) }
     ensures aligned { IsTrue result → IsMultiple 0 align (at.new) }
-    ensures least { IsTrue result → (n : ℕ) → IsMultiple 0 align n → IsRow nat_cmp (λ n. n) false a.now start end count n → at.new ≤ n }
-    ensures none { result ≡ false → 0 < align → (n : ℕ) → IsMultiple 0 align n → ¬ (IsRow nat_cmp (λ n. n) false a.now start end count n) }
+    ensures least { IsTrue result → (n : ℕ) → IsMultiple 0 align n → IsFit nat_cmp (λ n. n) false a.now start end count n → at.new ≤ n }
+    ensures none { result ≡ false → 0 < align → (n : ℕ) → IsMultiple 0 align n → ¬ (IsFit nat_cmp (λ n. n) false a.now start end count n) }
     ensures unchanged { result ≡ false → at.new ≡ at.old }
 {
     first_fit_aligned(a, start..end, u128::from(count), u128::from(align), at)
@@ -504,15 +504,15 @@ pub extern "C" fn proved_range_set_u32_first_run(
     at: &mut u32,
 ) -> bool
     requires { IsAscending nat_cmp a.now }
-    ensures fits { IsTrue result → IsRow nat_cmp (λ n. n) true a.now start end count (at.new) }
-    ensures least { IsTrue result → (n : ℕ) → IsRow nat_cmp (λ n. n) true a.now start end count n → at.new ≤ n }
-    ensures none { result ≡ false → (n : ℕ) → ¬ (IsRow nat_cmp (λ n. n) true a.now start end count n) }
+    ensures fits { IsTrue result → IsFit nat_cmp (λ n. n) true a.now start end count (at.new) }
+    ensures least { IsTrue result → (n : ℕ) → IsFit nat_cmp (λ n. n) true a.now start end count n → at.new ≤ n }
+    ensures none { result ≡ false → (n : ℕ) → ¬ (IsFit nat_cmp (λ n. n) true a.now start end count n) }
     ensures unchanged { result ≡ false → at.new ≡ at.old }
 {
     first_run(a, start..end, u128::from(count), at)
 }
 
-/// Sorts the numbers, in any order, and moves the distinct ones to the front, as many as it answers.
+/// Sorts the numbers, in any order, and moves the distinct ones to the front, as many as it returns.
 #[unsafe(no_mangle)]
 pub extern "C" fn proved_range_set_u32_from_unsorted(items: &mut [u32]) -> usize
     ensures within { result ≤ length items.old }
@@ -551,7 +551,7 @@ impl Ends for RangeU32 {
     }
 }
 
-/// Moves the ranges of the set of all numbers in the ranges to the front, as many as it answers. They may stand in any order, overlap and touch; empty and reversed ones have no number.
+/// Moves the ranges of the set of all numbers in the ranges to the front, as many as it returns. They may stand in any order, overlap and touch; empty and reversed ones have no number.
 #[unsafe(no_mangle)]
 pub extern "C" fn proved_range_set_u32_from_ranges(ranges: &mut [RangeU32]) -> usize
     ensures within { result ≤ length ranges.old }
@@ -561,7 +561,7 @@ pub extern "C" fn proved_range_set_u32_from_ranges(ranges: &mut [RangeU32]) -> u
     from_ranges(ranges)
 }
 
-/// Moves the ranges with an end of the set of all numbers in the ranges and, if `is_open`, of all from `from` on, to the front, and answers how many these are. If `is_open`, it writes to `from` where the range without an end starts.
+/// Moves the ranges with an end of the set of all numbers in the ranges and, if `is_open`, of all from `from` on, to the front, and returns how many these are. If `is_open`, it writes to `from` where the range without an end starts.
 #[unsafe(no_mangle)]
 pub extern "C" fn proved_range_set_u32_union_from(
     ranges: &mut [RangeU32],
@@ -576,7 +576,7 @@ pub extern "C" fn proved_range_set_u32_union_from(
     union_told(ranges, is_open, from)
 }
 
-/// Writes the ranges as a text, `0..10, 20..`, where the buffer has room for it, and answers how many bytes that is. Where it has no room the buffer is as it was.
+/// Writes the ranges as a text, `0..10, 20..`, where the buffer has room for it, and returns how many bytes that is. Where it has no room the buffer is as it was.
 #[unsafe(no_mangle)]
 pub extern "C" fn proved_range_set_u32_print(a: &[u32], out: &mut [u8]) -> usize
     requires sorted { IsAscending nat_cmp a.now }
@@ -586,7 +586,7 @@ pub extern "C" fn proved_range_set_u32_print(a: &[u32], out: &mut [u8]) -> usize
     print(a, out)
 }
 
-/// Answers 0 if the bytes are a text of ranges, as `0..10, 20..`, and writes how many numbers it has. Else it answers 1 and writes the byte at which they stop being one, 2 if a number doesn't fit the type, or 3 and writes the byte from which on they aren't UTF-8.
+/// Returns 0 if the bytes are a text of ranges, as `0..10, 20..`, and writes how many numbers it has. Else it returns 1 and writes the byte at which they stop being one, 2 if a number doesn't fit the type, or 3 and writes the byte from which on they aren't UTF-8.
 #[unsafe(no_mangle)]
 pub extern "C" fn proved_range_set_u32_check_text(text: &[u8], told: &mut usize) -> u32
     requires fits { numbers_in (unsigned_number 32) text.now < 2 ^ 64 }
@@ -595,7 +595,7 @@ pub extern "C" fn proved_range_set_u32_check_text(text: &[u8], told: &mut usize)
     check::<u32>(text, told)
 }
 
-/// Leaves the ranges with an end of the set of a text's ranges at the front of the buffer, and answers how many these are. It writes whether the set has a range without an end after them, and if so where that starts.
+/// Leaves the ranges with an end of the set of a text's ranges at the front of the buffer, and returns how many these are. It writes whether the set has a range without an end after them, and if so where that starts.
 #[unsafe(no_mangle)]
 pub extern "C" fn proved_range_set_u32_parse(
     text: &[u8],
