@@ -4,7 +4,7 @@
 //! |---|---|
 //! | puts a range in or takes it out, or asks whether it is in | [`AnyRange`] |
 //! | makes a set of many ranges, or extends one | [`IntoRange`] |
-//! | needs an end, as `first_fit` does | [`Ended`] |
+//! | looks for values in a row, as `first_fit` does | [`Ended`] |
 //! | finds the ranges that overlap another | [`Overlaps`] |
 //! | finds the parts of a range that are in a set, or not | [`Within`] |
 

@@ -2,10 +2,10 @@
 
 use crate::entry::RangeSetEntry;
 use crate::generated::range_chunks::ChunkedRangeSet;
+use crate::generated::range_collections::changes::set_range;
 use crate::generated::range_collections::range_set::copying::copies;
 use crate::generated::range_collections::range_set::joining::union_of;
 use crate::generated::range_collections::range_set::many_ranges::{self, Aside};
-use crate::generated::range_collections::range_set::splicing::set_range;
 use crate::generated::range_collections::{self as proved, Comparisons, WholeNumber};
 use crate::generated::range_map::RangeMap;
 use crate::generated::range_merge::{

@@ -355,7 +355,7 @@ macro_rules! questions {
             /// Returns the member with `k` members below it, or `None` if there are no more than
             /// `k`.
             ///
-            /// It takes time for each boundary up to the answer.
+            /// It takes time for each boundary up to the result.
             ///
             /// # Examples
             ///
@@ -379,7 +379,7 @@ macro_rules! questions {
             ///
             /// Multiples are counted from the number 0, in both directions, and from the first
             /// value of a type without numbers below it. It is `None` if there is none, or if
-            /// `align` is 0. It takes time for each boundary up to the answer.
+            /// `align` is 0. It takes time for each boundary up to the result.
             ///
             /// # Examples
             ///
@@ -404,14 +404,14 @@ macro_rules! questions {
                 T: FromPlace,
             {
                 self.proved()
-                    .first_fit_aligned(within.ended(), count, align)
+                    .first_fit_aligned(within, count, align)
             }
 
             /// Returns the least value of the range from which on `count` values of it are members:
             /// where they fit, in a set of what is free.
             ///
             /// It is `None` if there are no such values, and for a `count` of 0 the start of a
-            /// range that isn't reversed. It takes time for each boundary up to the answer.
+            /// range that isn't reversed. It takes time for each boundary up to the result.
             ///
             /// # Examples
             ///
@@ -427,7 +427,7 @@ macro_rules! questions {
             where
                 T: Countable + Copy,
             {
-                self.proved().first_run(within.ended(), count)
+                self.proved().first_run(within, count)
             }
         }
     };

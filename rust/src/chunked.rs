@@ -4,11 +4,13 @@ mod changes;
 mod combining;
 mod iter;
 mod members;
+mod relations;
 mod taking;
 mod traits;
 
 pub use iter::{Gaps, IntoIter, Iter, RangesWithin};
 pub use members::Members;
+pub use relations::AnySet;
 
 use crate::any_range::Ended;
 use crate::chunks;
@@ -71,7 +73,7 @@ impl<T: Ord> ChunkedRangeSet<T> {
     /// Returns the least number of the range from which on `len` numbers of it are free, that is,
     /// not members.
     ///
-    /// It is `None` if there is no such stretch. It takes time for each boundary up to the answer;
+    /// It is `None` if there is no such stretch. It takes time for each boundary up to the result;
     /// for repeated searches there is [`ChunkedSpace::first_fit`](crate::ChunkedSpace::first_fit).
     ///
     /// # Examples
@@ -88,8 +90,7 @@ impl<T: Ord> ChunkedRangeSet<T> {
     where
         T: Length,
     {
-        self.0
-            .first_fit_count_unchanged(within.ended(), len.count()?)
+        self.0.first_fit_count_unchanged(within, len.count()?)
     }
 
     /// Returns `true` if the set has no member.

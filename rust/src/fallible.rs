@@ -30,7 +30,7 @@
 //! `into` without a copy. A view has operations of its own, which end the process:
 //! [`RangeSet::copied`] makes a set of it first.
 //!
-//! Copies are made by [`EntryClone`] in place of `Clone`, which has no answer for a failure.
+//! Copies are made by [`EntryClone`] in place of `Clone`, which can't return a failure.
 //!
 //! [`RangeSetRef`]: crate::RangeSetRef
 

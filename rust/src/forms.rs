@@ -112,7 +112,7 @@ pub(crate) mod ends {
         }
     }
 
-    /// The result of a caller's function, which answers no error.
+    /// The result of a caller's function, which returns no error.
     pub(crate) fn tried<R>(result: R) -> Result<R, AllocError> {
         Ok(result)
     }

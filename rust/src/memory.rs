@@ -32,7 +32,7 @@ pub(crate) fn expect_room<T, R>(result: Result<R, AllocError>, items: Option<usi
     }
 }
 
-/// Elements and values are copied by their own `Clone`, which answers no error.
+/// Elements and values are copied by their own `Clone`, which returns no error.
 pub struct ByClone;
 
 impl<T: Clone> Copier<T> for ByClone {

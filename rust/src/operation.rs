@@ -44,7 +44,7 @@ const fn connective(neither: bool, left: bool, right: bool, both: bool) -> Conne
     }
 }
 
-/// The usual ones of the sixteen. The others are made of their four answers:
+/// The usual ones of the sixteen. The others are made of their four truths:
 ///
 /// ```
 /// use range_sets::{Connective, RangeSetRef};

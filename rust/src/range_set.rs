@@ -42,13 +42,13 @@ use crate::array::List;
 ///
 /// # Ranges
 ///
-/// A start is in its range, an end isn't. A range may have no end, so `!` always has an answer.
+/// A start is in its range, an end isn't. A range may have no end, so `!` always has a result.
 /// Ranges that overlap or touch become one. An empty or a reversed range has no members.
 ///
 /// # Memory
 ///
 /// If memory runs out, a call ends the process, as std's collections do. The calls of [`fallible`]
-/// answer a `Result`.
+/// return a `Result`.
 ///
 /// [`fallible`]: crate::fallible
 pub struct RangeSet<A: Array> {

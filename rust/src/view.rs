@@ -86,7 +86,7 @@ impl<T> RangeSetRef<T> {
 
     /// Returns the set with these boundaries, and doesn't look whether they are strictly sorted.
     ///
-    /// If they aren't, calls give wrong answers or panic. Nothing is undefined.
+    /// If they aren't, calls give wrong results or panic. Nothing is undefined.
     ///
     /// # Examples
     ///

@@ -5,7 +5,7 @@ use range_sets::tracker::{ChunkedTracker, Tracker};
 use range_sets::{ChunkedRangeSet, ChunkedSpace, RangeMap, RangeSet2, RangeSetRange, RangeSetRef};
 use std::fmt::Debug;
 use std::iter::once;
-use std::ops::{Bound, RangeBounds};
+use std::ops::{Bound, Range, RangeBounds};
 
 type Part = RangeSetRange<u8>;
 
@@ -181,50 +181,78 @@ fn between_references() {
     }
 }
 
-/// A range without an end goes up to the greatest value, which is in no row.
+/// The first of the numbers from which on `count` lie in the range, all of them members or none, by
+/// looking at each.
+fn first_by_hand(
+    view: &RangeSetRef<u8>,
+    within: Range<u16>,
+    (count, align): (u16, u16),
+    inside: bool,
+) -> Option<u8> {
+    let alike = |n| u8::try_from(n).map_or(false, |n| view.contains(&n) == inside);
+    (within.start..=within.end.min(255))
+        .filter(|at| at % align == 0 && at + count <= within.end)
+        .find(|&at| (at..at + count).all(alike))
+        .and_then(|at| u8::try_from(at).ok())
+}
+
+/// A range without an end goes up to the greatest value, with it.
 #[test]
 fn rows_of_values_in_every_kind_of_range() {
     for boundaries in sets() {
         let view = RangeSetRef::new(&boundaries).unwrap();
         let chunked = ChunkedRangeSet::from(view);
         let mut space = ChunkedSpace::from(chunked.clone());
-        for (count, align) in [(0, 1), (1, 3), (2, 4), (5, 1), (241, 2), (255, 1)] {
+        for numbers in [
+            (0, 1),
+            (0, 256),
+            (1, 3),
+            (2, 4),
+            (5, 1),
+            (15, 16),
+            (241, 2),
+            (255, 1),
+            (256, 1),
+        ] {
+            let (count, align) = (u128::from(numbers.0), u128::from(numbers.1));
             macro_rules! same {
-                ($range:expr, $ended:expr) => {{
-                    let (range, ended) = ($range, $ended);
-                    let fit = view.first_fit_count(ended.clone(), count);
-                    let aligned = view.first_fit_aligned(ended.clone(), count, align);
-                    let len = u8::try_from(count).unwrap();
-                    assert_eq!(view.first_fit(range.clone(), len), fit);
+                ($range:expr, $within:expr) => {{
+                    let (range, within) = ($range, $within);
+                    let fit = first_by_hand(view, within.clone(), (numbers.0, 1), false);
+                    let aligned = first_by_hand(view, within.clone(), numbers, false);
+                    let run = first_by_hand(view, within, (numbers.0, 1), true);
+                    if let Ok(len) = u8::try_from(count) {
+                        assert_eq!(view.first_fit(range.clone(), len), fit);
+                        assert_eq!(chunked.first_fit_unchanged(range.clone(), len), fit);
+                        assert_eq!(space.first_fit(range.clone(), len), fit);
+                    }
                     assert_eq!(view.first_fit_count(range.clone(), count), fit);
                     assert_eq!(view.first_fit_aligned(range.clone(), count, align), aligned);
-                    assert_eq!(chunked.first_fit_unchanged(range.clone(), len), fit);
+                    assert_eq!(view.first_run(range.clone(), count), run);
                     assert_eq!(
                         chunked.first_fit_aligned(range.clone(), count, align),
                         aligned
                     );
-                    assert_eq!(space.first_fit(range.clone(), len), fit);
+                    assert_eq!(chunked.first_run(range.clone(), count), run);
                     assert_eq!(space.first_fit_count(range.clone(), count), fit);
                     assert_eq!(
                         space.first_fit_aligned(range.clone(), count, align),
                         aligned
                     );
-                    let run = view.first_run(ended, count);
-                    assert_eq!(view.first_run(range.clone(), count), run);
-                    assert_eq!(chunked.first_run(range.clone(), count), run);
                 }};
             }
-            same!(.., 0..255);
+            same!(.., 0..256);
             for a in ENDS {
-                same!(a.., a..255);
-                same!(..a, 0..a);
-                same!(..=a, 0..a.saturating_add(1));
-                same!(RangeSetRange::from(a..), a..255);
+                let at = u16::from(a);
+                same!(a.., at..256);
+                same!(..a, 0..at);
+                same!(..=a, 0..at + 1);
+                same!(RangeSetRange::from(a..), at..256);
                 for b in ENDS {
-                    same!(a..b, a..b);
-                    assert_eq!(view.first_run(&(a..b), count), view.first_run(a..b, count));
-                    let after = if a <= b { b.saturating_add(1) } else { b };
-                    same!(a..=b, a..after);
+                    let end = u16::from(b);
+                    same!(a..b, at..end);
+                    same!(&(a..b), at..end);
+                    same!(a..=b, at..if a <= b { end + 1 } else { end });
                 }
             }
         }

@@ -5,6 +5,7 @@ mod common;
 use common::{one_in, Random};
 use range_sets::{fallible, ChunkedRangeSet, ChunkedSpace, Countable, FromPlace, RangeSetEntry};
 use std::cell::Cell;
+use std::net::Ipv4Addr;
 use std::ops::Range;
 
 /// Below which number the ends of a sequence's ranges lie, how long these are at most, how many
@@ -168,14 +169,25 @@ fn gaps_without_a_multiple_are_passed() {
     assert_eq!(space.first_fit_aligned(16_020..64_000, 0, 8), Some(16_024));
 }
 
-/// A range leaves its end out, so the greatest value lies in none.
+/// A range leaves its end out, so the greatest value lies in one without an end.
 #[test]
-fn the_greatest_value_is_not_found() {
+fn the_greatest_value_is_found() {
     let mut space = ChunkedSpace::new();
     space.insert(0u8..250);
     assert_eq!(space.first_fit(0..255, 5), Some(250));
     assert_eq!(space.first_fit(0..255, 6), None);
-    assert_eq!(space.first_fit_count(0..255, 6), None);
+    assert_eq!(space.first_fit(0.., 6), Some(250));
+    assert_eq!(space.first_fit_count(0..=255, 6), Some(250));
+    assert_eq!(space.first_fit_count(0.., 7), None);
+    assert_eq!(space.first_fit_aligned(.., 2, 254), Some(254));
+
+    let mut pool = ChunkedSpace::new();
+    pool.insert(..Ipv4Addr::new(255, 255, 255, 128));
+    let block = Some(Ipv4Addr::new(255, 255, 255, 128));
+    assert_eq!(pool.first_fit_aligned(.., 128, 128), block);
+    pool.insert(Ipv4Addr::BROADCAST..);
+    assert_eq!(pool.first_fit_aligned(.., 128, 128), None);
+    assert_eq!(pool.first_fit_aligned(.., 64, 64), block);
 }
 
 #[test]

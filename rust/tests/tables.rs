@@ -35,7 +35,7 @@ trait Word: FromPlace + RangeSetEntry + EntryClone + TextEntry + Debug {
     fn word(&self) -> String;
 
     /// The first value from which on `len` values of the range are free.
-    fn first_fit(set: &RangeSetRef<Self>, within: Range<Self>, len: Self) -> Option<Self>;
+    fn first_fit(set: &RangeSetRef<Self>, within: RangeSetRange<Self>, len: Self) -> Option<Self>;
 }
 
 macro_rules! numbers {
@@ -49,7 +49,11 @@ macro_rules! numbers {
                 self.to_string()
             }
 
-            fn first_fit(set: &RangeSetRef<Self>, within: Range<Self>, len: Self) -> Option<Self> {
+            fn first_fit(
+                set: &RangeSetRef<Self>,
+                within: RangeSetRange<Self>,
+                len: Self,
+            ) -> Option<Self> {
                 set.first_fit(within, len)
             }
         }
@@ -75,7 +79,7 @@ impl Word for char {
         }
     }
 
-    fn first_fit(_: &RangeSetRef<Self>, _: Range<Self>, _: Self) -> Option<Self> {
+    fn first_fit(_: &RangeSetRef<Self>, _: RangeSetRange<Self>, _: Self) -> Option<Self> {
         unreachable!("a character is no length")
     }
 }
@@ -191,7 +195,7 @@ fn answer_of_each<T: Word>(table: &str, row: &Given) -> String {
     match table {
         "contains" => set().contains(&row.value(1)).to_string(),
         "covered" => or_none(set().covered().map(|n| n.to_string())),
-        "first_fit" => value_or_none(T::first_fit(&set(), row.range(1), row.value(2))),
+        "first_fit" => value_or_none(T::first_fit(&set(), range(row.0[1]), row.value(2))),
         "members" => {
             let (set, mut back) = (set(), row.set::<T>(0).members().rev().collect::<Vec<_>>());
             back.reverse();
@@ -201,7 +205,7 @@ fn answer_of_each<T: Word>(table: &str, row: &Given) -> String {
         "rank" => set().rank(&row.value(1)).to_string(),
         "select" => value_or_none(set().select(row.0[1].parse().unwrap())),
         "fitting" | "multiples" => {
-            let (set, within) = (set(), row.range::<T>(1));
+            let (set, within) = (set(), range::<T>(row.0[1]));
             let (count, align) = (row.0[2].parse().unwrap(), row.0[3].parse().unwrap());
             let aligned = value_or_none(set.first_fit_aligned(within.clone(), count, align));
             if table == "multiples" {

@@ -1,5 +1,5 @@
 //! The parts of a range that are in a set or not, as ranges between values. Also the ranges that
-//! calls take if they need an end ([`Ended`]), or look at the ends alone ([`Overlaps`]).
+//! calls take that look for values in a row ([`Ended`]), or look at the ends alone ([`Overlaps`]).
 
 use super::sealed::Sealed;
 use super::within::up_to;
@@ -7,7 +7,9 @@ use super::NextValue;
 use crate::chunked::ChunkedRangeSet;
 use crate::entry::RangeSetEntry;
 use crate::generated::range_collections::lists::is_odd;
-use crate::generated::range_collections::{Boundaries as _, Comparisons, FromPlace};
+use crate::generated::range_collections::{
+    Boundaries as _, Comparisons, Countable, FromPlace, ValueEnds, ValueRange,
+};
 use crate::generated::range_list::{Chunks, Items};
 use crate::iter::shown;
 use crate::map::{Changes, Map};
@@ -222,7 +224,7 @@ impl<T> Overlaps<T> for &Range<T> {
 }
 
 /// A range, of any kind that std has, in which values in a row are looked for. One without an end
-/// goes up to the type's greatest value, which is never in a row.
+/// goes up to the type's greatest value, and so does `a..=b` if `b` is that value.
 ///
 /// It is implemented for what [`AnyRange`](crate::AnyRange) is, and for nothing else.
 ///
@@ -232,53 +234,58 @@ impl<T> Overlaps<T> for &Range<T> {
 /// use range_sets::RangeSetRef;
 ///
 /// let used = RangeSetRef::new(&[0u8, 64, 80, 128]).unwrap();
-/// assert_eq!(used.first_fit(70.., 16), Some(128));
+/// assert_eq!(used.first_fit(70.., 128), Some(128));
+/// assert_eq!(used.first_fit(70..=255, 128), Some(128));
+/// assert_eq!(used.first_fit(70..255, 128), None);
 /// assert_eq!(used.first_fit(..=79, 16), Some(64));
 /// ```
-pub trait Ended<T>: Sealed {
-    /// The range with its end.
-    #[doc(hidden)]
-    fn ended(self) -> Range<T>;
-}
+pub trait Ended<T: Countable>: Sealed + ValueRange<T> {}
 
-impl<T> Ended<T> for Range<T> {
-    #[inline(always)]
-    fn ended(self) -> Range<T> {
-        self
+impl<T: Countable> Ended<T> for Range<T> {}
+impl<T: FromPlace> Ended<T> for RangeFrom<T> {}
+impl<T: Countable + Clone> Ended<T> for &Range<T> {}
+
+impl<T: Countable + Clone> ValueRange<T> for &Range<T> {
+    fn ends(self) -> ValueEnds<T> {
+        self.clone().ends()
     }
 }
 
-impl<T: Clone> Ended<T> for &Range<T> {
-    fn ended(self) -> Range<T> {
-        self.clone()
-    }
-}
-
-macro_rules! by_value {
+macro_rules! ended {
     ($($range:ty $(: $($bound:ident)+)?;)*) => {$(
-        impl<T: FromPlace $($(+ $bound)+)?> Ended<T> for $range {
-            fn ended(self) -> Range<T> {
-                let (start, end) = RangeSetRange::from(self).into_ends();
-                start..end.unwrap_or_else(T::greatest)
+        impl<T: FromPlace $($(+ $bound)+)?> Ended<T> for $range {}
+
+        impl<T: FromPlace $($(+ $bound)+)?> ValueRange<T> for $range {
+            fn ends(self) -> ValueEnds<T> {
+                match RangeSetRange::from(self).into_ends() {
+                    (start, Some(end)) => (start..end).ends(),
+                    (start, None) => (start..).ends(),
+                }
             }
         }
-
-        overlaps!($range $(: $($bound)+)?);
     )*};
 }
 
+ended! {
+    RangeTo<T>: RangeSetEntry;
+    RangeFull: RangeSetEntry;
+    RangeInclusive<T>: NextValue;
+    RangeToInclusive<T>: RangeSetEntry NextValue;
+    RangeSetRange<T>;
+}
+
 macro_rules! overlaps {
-    ($range:ty $(: $($bound:ident)+)?) => {
+    ($($range:ty $(: $($bound:ident)+)?;)*) => {$(
         impl<T: Ord $($(+ $bound)+)?> Overlaps<T> for $range {
             fn found<R>(self, find: impl FnOnce(RangeSetRange<&T>) -> R) -> R {
                 find(RangeSetRange::from(self).as_ref())
             }
         }
-    };
+    )*};
 }
 
-overlaps!(Range<T>);
-by_value! {
+overlaps! {
+    Range<T>;
     RangeFrom<T>;
     RangeTo<T>: RangeSetEntry;
     RangeFull: RangeSetEntry;

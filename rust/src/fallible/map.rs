@@ -66,7 +66,7 @@ pub use crate::generated::range_map::MapValue;
 /// ```
 pub type RangeMap<K, V> = Map<K, V, ByMapValue>;
 
-/// Values are copied by their [`MapValue`], which answers an error if memory runs out.
+/// Values are copied by their [`MapValue`], which returns an error if memory runs out.
 pub struct ByMapValue;
 
 impl<V: MapValue> Copies<V> for ByMapValue {
@@ -174,7 +174,7 @@ impl<K: Ord, V: MapValue> RangeMap<K, V> {
     }
 
     /// Puts in copies of the ranges of `that` with their values, in place of those that were there,
-    /// and leaves `that` empty. It makes the map anew.
+    /// and leaves `that` empty, as [`insert_all`](Self::insert_all) does.
     ///
     /// # Errors
     ///
@@ -196,7 +196,7 @@ impl<K: Ord, V: MapValue> RangeMap<K, V> {
     where
         K: EntryClone,
     {
-        *self = self.union_with_right(that)?;
+        self.insert_all(that)?;
         that.clear();
         Ok(())
     }

@@ -8,13 +8,12 @@ mod by_clone;
 mod by_map_value;
 
 use super::forms::{as_it_is, both_maps, in_ok};
-use super::{steps, Copies, Kept, Map};
+use super::{Copies, Kept, Map};
 use crate::any_range::AnyRange;
 use crate::array::Array;
 use crate::fallible::{EntryClone, MapValue};
 use crate::forms::{ends, fails};
 use crate::generated::range_collections::Comparisons;
-use crate::generated::range_map as proved;
 use crate::generated::range_map::map::depth::depth_of;
 use crate::generated::range_map::operations::{LeftFirst, RightFirst};
 use crate::generated::range_map::updating::update_range;
@@ -73,18 +72,20 @@ impl<K: Ord, V: Eq, C: Copies<V>> Map<K, V, C> {
     ) -> Result<Map<K, U, C>, AllocError> {
         let op = RefCell::new(op);
         let op = ByCall(|a: Option<&V>, b: Option<&W>| (op.borrow_mut())(a, b));
-        self.try_merge(that, &op, copier)
+        let count = &mut Comparisons::new();
+        let made = self.0.combine_by(Global, &that.0, &op, copier, count);
+        made.map(Map)
     }
 
-    fn try_merge<W: Eq, U: Eq>(
-        &self,
-        that: &Map<K, W, C>,
-        op: &impl MapOperation<Kept<V, C>, Kept<W, C>, Output = Kept<U, C>>,
+    /// Puts in what an operation makes of both maps. Where the other one has no value, it keeps
+    /// this one's.
+    fn try_put_all(
+        &mut self,
+        that: &Self,
+        op: &impl MapOperation<Kept<V, C>, Kept<V, C>, Output = Kept<V, C>>,
         copier: &impl Copier<K>,
-    ) -> Result<Map<K, U, C>, AllocError> {
-        let count = &mut Comparisons::new();
-        let made = self.0.combine_by(Global, &that.0, op, copier, count);
-        made.map(Map)
+    ) -> Result<(), AllocError> {
+        self.0.combine_with(Global, &that.0, op, copier)
     }
 
     fn try_update(
@@ -108,19 +109,15 @@ impl<K: Ord, V: Eq, C: Copies<V>> Map<K, V, C> {
         set: &RangeSetRef<K>,
         copier: &impl Copier<K>,
     ) -> Result<Self, AllocError> {
-        if steps::are_searches_faster(set, &self.0.steps) {
-            let steps = steps::within(&self.0.steps, set, copier)?;
-            return Ok(Map(proved::RangeMap { steps }));
-        }
-        self.0.within(Global, set.proved(), true, copier).map(Map)
+        self.0.restrict_by(Global, set.proved(), copier).map(Map)
     }
 
-    fn try_without(
-        &self,
+    fn try_remove_all(
+        &mut self,
         set: &RangeSetRef<K>,
         copier: &impl Copier<K>,
-    ) -> Result<Self, AllocError> {
-        self.0.within(Global, set.proved(), false, copier).map(Map)
+    ) -> Result<(), AllocError> {
+        self.0.remove_all_by(set.proved(), copier)
     }
 }
 
@@ -136,7 +133,7 @@ macro_rules! operations {
         $form:ident, $Clone:ident, $Value:ident, $must_use:meta, $errors:ident,
         $at:literal, $from:literal, $of_pairs:literal, $returned:ident, $ok:literal, $end:literal
     ) => {
-        /// These make new maps and sets, and copy the keys.
+        /// These make maps and sets of maps, and copy the keys.
         impl<K: Ord + $Clone, V: Eq + $Value> $form::RangeMap<K, V> {
             /// Returns the map that gives each key what `op` makes of its values in both maps.
             ///
@@ -214,7 +211,11 @@ macro_rules! operations {
             /// ```
             #[$must_use]
             pub fn union_with_left(&self, that: &Self) -> $form::Returned<Self> {
-                $form::returned::<K, _, _>(self.try_merge(that, &LeftFirst, &$form::Copier))
+                let union = self.try_copy().and_then(|mut map| {
+                    map.try_put_all(that, &LeftFirst, &$form::Copier)?;
+                    Ok(map)
+                });
+                $form::returned::<K, _, _>(union)
             }
 
             /// Returns the map with the values of both. Where both have one, that of the other map
@@ -234,7 +235,94 @@ macro_rules! operations {
             /// ```
             #[$must_use]
             pub fn union_with_right(&self, that: &Self) -> $form::Returned<Self> {
-                $form::returned::<K, _, _>(self.try_merge(that, &RightFirst, &$form::Copier))
+                let union = self.try_copy().and_then(|mut map| {
+                    map.try_put_all(that, &RightFirst, &$form::Copier)?;
+                    Ok(map)
+                });
+                $form::returned::<K, _, _>(union)
+            }
+
+            /// Puts in the ranges of another map with their values, in place of those that were
+            /// there. It makes the ranges from the first key of the other map on, up to its last,
+            /// anew.
+            ///
+            #[doc = $errors!("If memory, or a copy of a key or of a value, is refused. The map is then \
+                as it was.")]
+            /// # Examples
+            ///
+            /// ```
+            #[doc = concat!("use ", $at, "::RangeMap;")]
+            ///
+            #[doc = concat!("let mut mine = RangeMap::", $of_pairs, "([(1..4, 'a')])", $ok)]
+            #[doc = concat!("let yours = RangeMap::", $of_pairs, "([(3..7, 'b')])", $ok)]
+            #[doc = concat!("mine.insert_all(&yours)", $ok)]
+            /// assert_eq!(format!("{mine:?}"), "{1..3: 'a', 3..7: 'b'}");
+            #[doc = $end]
+            /// ```
+            pub fn insert_all(&mut self, that: &Self) -> $form::Returned<()> {
+                let put = self.try_put_all(that, &RightFirst, &$form::Copier);
+                $form::returned::<K, _, _>(put)
+            }
+
+            /// Gives each key without a value the one that it has in another map. Else it is as
+            /// [`insert_all`](Self::insert_all).
+            ///
+            #[doc = $errors!("If memory, or a copy of a key or of a value, is refused. The map is then \
+                as it was.")]
+            /// # Examples
+            ///
+            /// ```
+            #[doc = concat!("use ", $at, "::RangeMap;")]
+            ///
+            #[doc = concat!("let mut mine = RangeMap::", $of_pairs, "([(1..4, 'a')])", $ok)]
+            #[doc = concat!("let yours = RangeMap::", $of_pairs, "([(3..7, 'b')])", $ok)]
+            #[doc = concat!("mine.insert_where_free(&yours)", $ok)]
+            /// assert_eq!(format!("{mine:?}"), "{1..4: 'a', 4..7: 'b'}");
+            #[doc = $end]
+            /// ```
+            pub fn insert_where_free(&mut self, that: &Self) -> $form::Returned<()> {
+                let put = self.try_put_all(that, &LeftFirst, &$form::Copier);
+                $form::returned::<K, _, _>(put)
+            }
+
+            /// Takes the values of the keys in a set away. It makes the ranges from the first member
+            /// on, up to the last, anew.
+            ///
+            #[doc = $errors!("If memory, or a copy of a key or of a value, is refused. The map is then \
+                as it was.")]
+            /// # Examples
+            ///
+            /// ```
+            #[doc = concat!("use ", $at, "::{RangeMap, RangeSet2};")]
+            ///
+            #[doc = concat!("let mut bookings = RangeMap::", $of_pairs, r#"([(9..14, "Ada")])"#, $ok)]
+            #[doc = concat!("let hours = RangeSet2::", $from, "(10..12)", $ok)]
+            #[doc = concat!("bookings.remove_all(&hours)", $ok)]
+            /// assert_eq!(format!("{bookings:?}"), r#"{9..10: "Ada", 12..14: "Ada"}"#);
+            #[doc = $end]
+            /// ```
+            pub fn remove_all(&mut self, set: &RangeSetRef<K>) -> $form::Returned<()> {
+                $form::returned::<K, _, _>(self.try_remove_all(set, &$form::Copier))
+            }
+
+            /// Takes all values away but those of the keys in a set.
+            ///
+            #[doc = $errors!("If memory, or a copy of a key or of a value, is refused. The map is then \
+                as it was.")]
+            /// # Examples
+            ///
+            /// ```
+            #[doc = concat!("use ", $at, "::{RangeMap, RangeSet2};")]
+            ///
+            #[doc = concat!("let mut bookings = RangeMap::", $of_pairs, r#"([(9..14, "Ada")])"#, $ok)]
+            #[doc = concat!("let hours = RangeSet2::", $from, "(12..20)", $ok)]
+            #[doc = concat!("bookings.retain_all(&hours)", $ok)]
+            /// assert_eq!(format!("{bookings:?}"), r#"{12..14: "Ada"}"#);
+            #[doc = $end]
+            /// ```
+            pub fn retain_all(&mut self, set: &RangeSetRef<K>) -> $form::Returned<()> {
+                let kept = self.try_restrict(set, &$form::Copier);
+                $form::returned::<K, _, _>(kept.map(|map| *self = map))
             }
 
             /// Returns the map with the values of the keys in a set alone.
@@ -272,7 +360,11 @@ macro_rules! operations {
             /// ```
             #[$must_use]
             pub fn without(&self, set: &RangeSetRef<K>) -> $form::Returned<Self> {
-                $form::returned::<K, _, _>(self.try_without(set, &$form::Copier))
+                let rest = self.try_copy().and_then(|mut map| {
+                    map.try_remove_all(set, &$form::Copier)?;
+                    Ok(map)
+                });
+                $form::returned::<K, _, _>(rest)
             }
 
             /// Returns the set of the keys that have a value.

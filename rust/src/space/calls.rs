@@ -163,7 +163,7 @@ macro_rules! changes {
             /// `None` if there is no such stretch. The type's greatest number is never in one, as a
             /// range leaves its end out.
             ///
-            /// Up to the answer it takes one step for some 512 gaps that it remembers to be too
+            /// Up to the result it takes one step for some 512 gaps that it remembers to be too
             /// short, and reads the others: after a load all of them, after changes those nearby.
             /// Without memory it remembers less. Among a million ranges it takes 61 microseconds to
             /// free one and to place one lowest, by bench/README.md.
@@ -188,7 +188,7 @@ macro_rules! changes {
 
             /// Returns the least value of the range from which on `count` values of it are free, or
             /// `None` if there is no such stretch. It costs what [`first_fit`](Self::first_fit)
-            /// does, and leaves out the type's greatest value too.
+            /// does.
             ///
             /// # Examples
             ///
@@ -201,7 +201,7 @@ macro_rules! changes {
             #[doc = $end]
             /// ```
             pub fn first_fit_count(&mut self, within: impl Ended<T>, count: u128) -> Option<T> {
-                self.proved_mut().first_fit_count(within.ended(), count)
+                self.proved_mut().first_fit_count(within, count)
             }
 
             /// Returns the least multiple of `align` in the range from which on `count` values of
@@ -233,7 +233,6 @@ macro_rules! changes {
             where
                 T: FromPlace,
             {
-                let within = within.ended();
                 self.proved_mut().first_fit_aligned(within, count, align)
             }
         }

@@ -63,7 +63,7 @@ impl<K> Copier<K> for ByBits<K> {
 /// Whether `K` is one of std's types of whole numbers, or `char`: those that are plain by their
 /// `EntryClone`.
 ///
-/// The answer is known when the call is compiled.
+/// The result is known when the call is compiled.
 #[inline(always)]
 pub fn is_number<K>() -> bool {
     let id = id::<K>();

@@ -1,4 +1,4 @@
-//! The list of the crate `smallvec`, with calls that answer where an allocation fails.
+//! The list of the crate `smallvec`, with calls that return an error if an allocation fails.
 
 use super::opened::Opened;
 use super::vec::list_calls;

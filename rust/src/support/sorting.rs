@@ -1,4 +1,4 @@
-//! A stable sort that answers where an allocation fails. std's ends the process.
+//! A stable sort that returns an error if an allocation fails. std's ends the process.
 
 use super::by_bits::is_number;
 use super::{AllocError, Global};

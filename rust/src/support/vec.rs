@@ -1,4 +1,4 @@
-//! std's list, with calls that answer where an allocation fails.
+//! std's list, with calls that return an error if an allocation fails.
 
 use super::{AllocError, AllocFailed, Global};
 use core::ops::{Deref, DerefMut, RangeBounds};
@@ -60,6 +60,12 @@ macro_rules! list_calls {
             #[inline(always)]
             pub fn remove(&mut self, at: usize) -> T {
                 self.0.remove(at)
+            }
+
+            /// Takes the last item out.
+            #[inline(always)]
+            pub fn pop(&mut self) -> Option<T> {
+                self.0.pop()
             }
 
             /// Drops the items from `len` on. If a drop panics, the others are dropped too.
@@ -128,12 +134,6 @@ impl<T> Vec<T> {
         self.0.try_reserve(other.0.len())?;
         self.0.append(&mut other.0);
         Ok(())
-    }
-
-    /// Takes the last item out.
-    #[inline(always)]
-    pub fn pop(&mut self) -> Option<T> {
-        self.0.pop()
     }
 
     /// Keeps the items for which `keep` is true.

@@ -9,7 +9,7 @@ impl<T: Ord> RangeSetRef<T> {
     /// Returns the least number of the range from which on `len` numbers of it are free, that is,
     /// not members.
     ///
-    /// It is `None` if there is no such stretch. It takes time for each boundary up to the answer;
+    /// It is `None` if there is no such stretch. It takes time for each boundary up to the result;
     /// for repeated searches there is [`ChunkedSpace`](crate::ChunkedSpace::first_fit).
     ///
     /// # Examples
@@ -36,7 +36,7 @@ impl<T: Ord> RangeSetRef<T> {
     /// not members.
     ///
     /// It is `None` if there are no such values, and for a `count` of 0 the start of a range that
-    /// isn't reversed. It takes time for each boundary up to the answer.
+    /// isn't reversed. It takes time for each boundary up to the result.
     ///
     /// # Examples
     ///
@@ -53,6 +53,6 @@ impl<T: Ord> RangeSetRef<T> {
     where
         T: Countable + Copy,
     {
-        self.proved().first_fit_count(within.ended(), count)
+        self.proved().first_fit_count(within, count)
     }
 }

@@ -131,6 +131,10 @@ fn operations_with_one_range() {
         it.without(&RangeSet2::from(from..to));
         it.union_with_left(&Map::from([(from..to, 1)]));
         it.union_with_right(&Map::from([(from..to, 1)]));
+        it.insert_all(&Map::from([(from..to, 1)]));
+        it.insert_where_free(&Map::from([(from..to, 1)]));
+        it.remove_all(&RangeSet2::from(from..to));
+        it.retain_all(&RangeSet2::from(from..to));
     }
 }
 

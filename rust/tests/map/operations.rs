@@ -3,7 +3,7 @@
 use crate::common::{one_in, Random};
 use crate::{any_range, has, read, stretches, Cells, KEYS};
 use range_sets::{fallible, RangeMap, RangeSet2, RangeSetRange, RangeSetRef};
-use std::cell::RefCell;
+use std::cell::{Cell, RefCell};
 use std::ops::Range;
 
 /// A map of a few ranges, and its cells.
@@ -76,6 +76,23 @@ fn operations_key_by_key() {
         assert_eq!(read(&a.restrict(&domain)), stretches(&asked));
         let asked = both(&|a, b| if b.is_some() { None } else { a });
         assert_eq!(read(&a.without(&domain)), stretches(&asked));
+
+        // In place they make what a new map has.
+        type Change = fn(&mut RangeMap<u8, u8>, &RangeMap<u8, u8>, &RangeSet2<u8>);
+        let changes: [(Change, _); 4] = [
+            (|map, that, _| map.insert_all(that), a.union_with_right(&b)),
+            (
+                |map, that, _| map.insert_where_free(that),
+                a.union_with_left(&b),
+            ),
+            (|map, _, set| map.remove_all(set), a.without(&domain)),
+            (|map, _, set| map.retain_all(set), a.restrict(&domain)),
+        ];
+        for (change, asked) in changes {
+            let mut changed = a.clone();
+            change(&mut changed, &b, &domain);
+            assert_eq!(read(&changed), read(&asked), "seed {seed}");
+        }
 
         let (mut updated, range) = (a.clone(), any_range(&mut random));
         let more = |value: Option<&u8>| {
@@ -249,5 +266,68 @@ fn combine_asks_once_for_each_step_with_a_value() {
             made,
             "{what}, where memory may be refused"
         );
+    }
+}
+
+thread_local! {
+    static CLONES: Cell<usize> = const { Cell::new(0) };
+}
+
+/// A number that counts its clones.
+#[derive(Debug, PartialEq, Eq, PartialOrd, Ord)]
+struct Cloned(u32);
+
+impl Clone for Cloned {
+    fn clone(&self) -> Self {
+        CLONES.with(|clones| clones.set(clones.get() + 1));
+        Cloned(self.0)
+    }
+}
+
+/// The map of these ranges of 4 at distances of 10, with values by turns.
+fn spread(places: impl Iterator<Item = u32>) -> RangeMap<Cloned, Cloned> {
+    let range = |i: u32| Cloned(10 * i)..Cloned(10 * i + 4);
+    places.map(|i| (range(i), Cloned(i % 3))).collect()
+}
+
+/// A change in place copies what lies between the first key and the last that change it, and a new
+/// map each key and value once.
+#[test]
+fn few_ranges_copy_few() {
+    let few = spread([500, 503].into_iter());
+    let set: RangeSet2<Cloned> = few.domain();
+    for ranges in [1_000, 30_000] {
+        let map = spread(0..ranges);
+        type Change =
+            fn(&mut RangeMap<Cloned, Cloned>, &RangeMap<Cloned, Cloned>, &RangeSet2<Cloned>);
+        let changes: [(Change, usize); 8] = [
+            (|map, that, _| map.insert_all(that), 32),
+            (|map, that, _| map.insert_where_free(that), 32),
+            (|map, _, set| map.remove_all(set), 32),
+            (|map, _, set| map.retain_all(set), 32),
+            (|map, _, set| *map = map.restrict(set), 32),
+            (
+                |map, that, _| *map = map.union_with_left(that),
+                3 * ranges as usize + 32,
+            ),
+            (
+                |map, that, _| *map = map.union_with_right(that),
+                3 * ranges as usize + 32,
+            ),
+            (
+                |map, _, set| *map = map.without(set),
+                3 * ranges as usize + 32,
+            ),
+        ];
+        for (i, (change, at_most)) in changes.into_iter().enumerate() {
+            let mut changed = map.clone();
+            let before = CLONES.with(Cell::get);
+            change(&mut changed, &few, &set);
+            let clones = CLONES.with(Cell::get) - before;
+            assert!(
+                clones <= at_most,
+                "{clones} clones by change {i} of {ranges}"
+            );
+        }
     }
 }

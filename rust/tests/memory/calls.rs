@@ -82,6 +82,34 @@ macro_rules! questions {
     };
 }
 
+/// The questions about two of them, of which the second is borrowed as a call takes it.
+macro_rules! relations {
+    ($S:ty, $borrowed:path) => {
+        calls! { |a, b: $S|
+            takes_none {
+                intersects => a.intersects($borrowed(b));
+                is_disjoint => a.is_disjoint($borrowed(b));
+                is_subset => a.is_subset($borrowed(b));
+                is_superset => a.is_superset($borrowed(b));
+                merge_test => a.merge_test($borrowed(b), Connective::UNION);
+                merge_len => a.merge_len($borrowed(b), Connective::UNION);
+            }
+        }
+    };
+}
+
+fn view(set: &Set) -> &RangeSetRef<u32> {
+    set
+}
+
+fn in_chunks(set: &ChunkedRangeSet<u32>) -> &range_sets::ChunkedRangeSet<u32> {
+    set
+}
+
+fn of_space(space: &ChunkedSpace<u32>) -> &range_sets::ChunkedRangeSet<u32> {
+    space.as_set()
+}
+
 /// The changes that they have in common.
 macro_rules! changes {
     ($S:ty) => {
@@ -153,12 +181,6 @@ fn set_calls() -> Vec<Row<Set>> {
             first_fit_count => a.first_fit_count(0..99, 3);
             first_fit_aligned => a.first_fit_aligned(0..99, 3, 4);
             split => a.split(12);
-            intersects => a.intersects(b);
-            is_disjoint => a.is_disjoint(b);
-            is_subset => a.is_subset(b);
-            is_superset => a.is_superset(b);
-            merge_test => a.merge_test(b, Connective::UNION);
-            merge_len => a.merge_len(b, Connective::UNION);
             merge_into => a.merge_into(b, Connective::UNION, &mut [0; 200]).is_ok();
         }
         may_fail {
@@ -182,6 +204,7 @@ fn set_calls() -> Vec<Row<Set>> {
         }
     };
     rows.extend(questions!(Set));
+    rows.extend(relations!(Set, view));
     rows.extend(changes!(Set));
     rows.extend(set_changes!(Set));
     #[cfg(feature = "new_unchecked")]
@@ -206,6 +229,7 @@ fn chunked_calls() -> Vec<Row<ChunkedRangeSet<u32>>> {
         }
     };
     rows.extend(questions!(ChunkedRangeSet<u32>));
+    rows.extend(relations!(ChunkedRangeSet<u32>, in_chunks));
     rows.extend(changes!(ChunkedRangeSet<u32>));
     rows.extend(set_changes!(ChunkedRangeSet<u32>));
     rows
@@ -226,6 +250,7 @@ fn space_calls() -> Vec<Row<ChunkedSpace<u32>>> {
         }
     };
     rows.extend(questions!(ChunkedSpace<u32>));
+    rows.extend(relations!(ChunkedSpace<u32>, of_space));
     rows.extend(changes!(ChunkedSpace<u32>));
     rows
 }
@@ -274,6 +299,10 @@ fn map_calls() -> Vec<Row<Map>> {
             update => a.update(12..40, |value| Ok(value.map(|_| text(7))));
             union_with_left => a.union_with_left(b);
             union_with_right => a.union_with_right(b);
+            insert_all => a.insert_all(b);
+            insert_where_free => a.insert_where_free(b);
+            remove_all => a.remove_all(RangeSetRef::new(&[12, 40]).unwrap());
+            retain_all => a.retain_all(RangeSetRef::new(&[12, 40]).unwrap());
             restrict => a.restrict(RangeSetRef::new(&[12, 40]).unwrap());
             without => a.without(RangeSetRef::new(&[12, 40]).unwrap());
             domain => a.domain::<[u32; 2]>();

@@ -13,7 +13,7 @@ const RIGHT: u32 = 2;
 /// In both sets.
 const BOTH: u32 = 4;
 
-// Writes the operation's result to the front of `out`, where it has room, and answers how many
+// Writes the operation's result to the front of `out`, where it has room, and returns how many
 // boundaries that is.
 pub(crate) fn merge<T: Ord + Copy, O: MergeOperation>(
     a: &[T],

@@ -17,32 +17,32 @@ pub(crate) fn copied<T: EntryClone>(alloc: Global, a: &[T]) -> Option<ChunkedRan
     ChunkedRangeSet::from_view(alloc, RangeSetRef::new_unchecked(a)).ok()
 }
 
-// Puts the numbers from `start` to below `end` in, and answers whether there was memory for it.
+// Puts the numbers from `start` to below `end` in, and returns whether there was memory for it.
 pub(crate) fn insert<T: Countable + Copy>(set: &mut ChunkedSpace<T>, start: T, end: T) -> bool {
     is_done(set.insert(start..end))
 }
 
-// Takes the numbers from `start` to below `end` out, and answers whether there was memory for it.
+// Takes the numbers from `start` to below `end` out, and returns whether there was memory for it.
 pub(crate) fn remove<T: Countable + Copy>(set: &mut ChunkedSpace<T>, start: T, end: T) -> bool {
     is_done(set.remove(start..end))
 }
 
-// Puts the numbers from `start` on in, and answers whether there was memory for it.
+// Puts the numbers from `start` on in, and returns whether there was memory for it.
 pub(crate) fn insert_from<T: Countable + Copy>(set: &mut ChunkedSpace<T>, start: T) -> bool {
     is_done(set.insert_from(start..))
 }
 
-// Takes the numbers from `start` on out, and answers whether there was memory for it.
+// Takes the numbers from `start` on out, and returns whether there was memory for it.
 pub(crate) fn remove_from<T: Countable + Copy>(set: &mut ChunkedSpace<T>, start: T) -> bool {
     is_done(set.remove_from(start..))
 }
 
-// Puts the members of a list in, and answers whether there was memory for it.
+// Puts the members of a list in, and returns whether there was memory for it.
 pub(crate) fn insert_all<T: Countable + Copy>(set: &mut ChunkedSpace<T>, b: &[T]) -> bool {
     is_done(set.insert_all(RangeSetRef::new_unchecked(b)))
 }
 
-// Takes the members of a list out, and answers whether there was memory for it.
+// Takes the members of a list out, and returns whether there was memory for it.
 pub(crate) fn remove_all<T: Countable + Copy>(set: &mut ChunkedSpace<T>, b: &[T]) -> bool {
     is_done(set.remove_all(RangeSetRef::new_unchecked(b)))
 }
@@ -89,7 +89,7 @@ pub(crate) fn first_fit<T: Countable + Copy>(
     put(set.first_fit_count(within, count), at)
 }
 
-// Writes the boundaries to the front of `out`, if it has room for them, and answers how many there
+// Writes the boundaries to the front of `out`, if it has room for them, and returns how many there
 // are.
 pub(crate) fn copy<T: Ord + Copy>(set: &ChunkedRangeSet<T>, out: &mut [T]) -> usize {
     let len = set.boundaries_len();

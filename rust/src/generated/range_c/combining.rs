@@ -7,8 +7,8 @@
 use crate::generated::range_c::calls::combine;
 
 // Leaves at the front of the buffer what the connective makes of the set of its first `len`
-// boundaries and another, and answers how many boundaries that is. Where there is no room for that
-// set and the result, the buffer is as it was, and it answers the room that both take.
+// boundaries and another, and returns how many boundaries that is. Where there is no room for that
+// set and the result, the buffer is as it was, and it returns the room that both take.
 pub(crate) fn combine_within<T: Ord + Copy>(
     buffer: &mut [T],
     len: usize,

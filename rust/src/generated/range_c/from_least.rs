@@ -10,7 +10,7 @@ use crate::generated::range_c::calls::{decoded, merge};
 use crate::generated::range_collections::{count_up_to, Comparisons, Connective, MergeOperation};
 
 // Writes what the connective makes of both sets among the numbers from `least` on, where the buffer
-// has room, and answers how many boundaries that is.
+// has room, and returns how many boundaries that is.
 pub(crate) fn combine_from<T: Ord + Copy>(
     a: &[T],
     b: &[T],
@@ -45,7 +45,7 @@ fn is_on(of: &Connective, a: bool, b: bool) -> bool {
     }
 }
 
-// The connective of how each side has changed: it is on where the other one has another answer than
+// The connective of how each side has changed: it is on where the other one has another result than
 // it had at first.
 fn changes_from(of: &Connective, a: bool, b: bool) -> Connective {
     let first = is_on(of, a, b);

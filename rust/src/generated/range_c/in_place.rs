@@ -7,19 +7,19 @@
 use crate::generated::range_collections::{cut_at, has_elements, Comparisons};
 
 // Puts the numbers from `start` to below `end` into the set of the first `len` boundaries, and
-// answers how many it has then. Where the buffer has no room for them it is as it was.
+// returns how many it has then. Where the buffer has no room for them it is as it was.
 pub(crate) fn insert<T: Ord + Copy>(buffer: &mut [T], len: usize, start: T, end: T) -> usize {
     set_range(buffer, len, start, end, true)
 }
 
 // Takes the numbers from `start` to below `end` out of the set of the first `len` boundaries, and
-// answers how many it has then. Where the buffer has no room for them it is as it was.
+// returns how many it has then. Where the buffer has no room for them it is as it was.
 pub(crate) fn remove<T: Ord + Copy>(buffer: &mut [T], len: usize, start: T, end: T) -> usize {
     set_range(buffer, len, start, end, false)
 }
 
 // Leaves at the front of the buffer the set of its first `len` boundaries, with the numbers from
-// `start` to below `end` as members where `inside` is true, and else as no members. It answers how
+// `start` to below `end` as members where `inside` is true, and else as no members. It returns how
 // many boundaries that are. Where the buffer has no room for them it is as it was.
 fn set_range<T: Ord + Copy>(buffer: &mut [T], len: usize, start: T, end: T, inside: bool) -> usize {
     if !has_elements(&start, &end, &mut Comparisons::new()) {
@@ -32,7 +32,7 @@ fn set_range<T: Ord + Copy>(buffer: &mut [T], len: usize, start: T, end: T, insi
 }
 
 // Replaces those of the first `len` items that stand between `from` and `to` by the start and the
-// end, where they are given. It answers how many items that are. Where the buffer has no room for
+// end, where they are given. It returns how many items that are. Where the buffer has no room for
 // them it is as it was.
 fn splice<T: Copy>(
     buffer: &mut [T],

@@ -5,7 +5,7 @@ use crate::generated::range_c::chunked::{is_done, put_ends, put_one};
 use crate::generated::range_c::parts::put;
 use crate::generated::range_map::{Iter, MapValue, RangeMap};
 
-// Gives the keys from `start` to below `end` the value, and answers whether there was memory for it.
+// Gives the keys from `start` to below `end` the value, and returns whether there was memory for it.
 pub(crate) fn insert<K: Ord, V: MapValue>(
     map: &mut RangeMap<K, V>,
     start: K,
@@ -15,13 +15,13 @@ pub(crate) fn insert<K: Ord, V: MapValue>(
     is_done(map.insert(start..end, value))
 }
 
-// Takes the values of the keys from `start` to below `end` away, and answers whether there was
+// Takes the values of the keys from `start` to below `end` away, and returns whether there was
 // memory for it.
 pub(crate) fn remove<K: Ord, V: MapValue>(map: &mut RangeMap<K, V>, start: K, end: K) -> bool {
     is_done(map.remove(start..end))
 }
 
-// Gives the keys from `start` on the value, and answers whether there was memory for it.
+// Gives the keys from `start` on the value, and returns whether there was memory for it.
 pub(crate) fn insert_from<K: Ord, V: MapValue>(
     map: &mut RangeMap<K, V>,
     start: K,
@@ -30,7 +30,7 @@ pub(crate) fn insert_from<K: Ord, V: MapValue>(
     is_done(map.insert_from(start.., value))
 }
 
-// Takes the values of the keys from `start` on away, and answers whether there was memory for it.
+// Takes the values of the keys from `start` on away, and returns whether there was memory for it.
 pub(crate) fn remove_from<K: Ord, V: MapValue>(map: &mut RangeMap<K, V>, start: K) -> bool {
     is_done(map.remove_from(start..))
 }
@@ -58,7 +58,7 @@ pub(crate) fn range_at<K: Ord + Copy, V: Eq + Copy>(
 }
 
 // Writes the first ranges that share a key with the one from `start` to below `end`, whole, and
-// their values: as many as have room for two keys and for a value. Answers how many ends these are.
+// their values: as many as have room for two keys and for a value. Returns how many ends these are.
 pub(crate) fn overlapping<K: Ord + Copy, V: Eq + Copy>(
     map: &RangeMap<K, V>,
     start: K,

@@ -69,7 +69,7 @@ pub(crate) fn next_gap<T: Ord + Copy>(a: &[T], from: &T, next: &mut T) -> bool {
     put(RangeSetRef::new_unchecked(a).next_gap(from).copied(), next)
 }
 
-// Writes what was found, and answers whether anything was.
+// Writes what was found, and returns whether anything was.
 pub(crate) fn put<T: Copy>(found: Option<T>, place: &mut T) -> bool {
     match found {
         Some(it) => {

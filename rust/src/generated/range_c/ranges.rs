@@ -5,7 +5,7 @@
 use crate::generated::range_c::ends::Ends;
 use crate::generated::range_collections::{has_elements, Comparisons};
 
-// Moves the ranges of the set of all numbers in the ranges to the front, as many as it answers.
+// Moves the ranges of the set of all numbers in the ranges to the front, as many as it returns.
 // Empty and reversed ones have no number.
 pub(crate) fn from_ranges<E: Ends>(ranges: &mut [E]) -> usize {
     ranges.sort_unstable_by_key(|range| range.start());

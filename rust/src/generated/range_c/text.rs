@@ -4,7 +4,7 @@
 use crate::generated::range_collections::{Iter, RangeSetRange, RangeSetRef};
 use crate::support::{Buffer, Integer};
 
-// Writes the ranges to the front of the buffer, with a comma and a space between them, and answers
+// Writes the ranges to the front of the buffer, with a comma and a space between them, and returns
 // how many bytes that is. Where the buffer has no room for them it is as it was.
 pub(crate) fn print<T: Ord + Integer>(a: &[T], out: &mut [u8]) -> usize {
     let set = RangeSetRef::new_unchecked(a);
@@ -15,7 +15,7 @@ pub(crate) fn print<T: Ord + Integer>(a: &[T], out: &mut [u8]) -> usize {
     put_ranges(set.iter(), out)
 }
 
-// Puts the ranges to the front of the buffer, where it has room, and answers how long their text
+// Puts the ranges to the front of the buffer, where it has room, and returns how long their text
 // is.
 fn put_ranges<T: Integer>(mut ranges: Iter<'_, T>, out: &mut [u8]) -> usize {
     match ranges.next() {
@@ -57,7 +57,7 @@ fn put_number<T: Integer>(out: &mut [u8], len: usize, n: &T) -> usize {
     put(out, len, Buffer::new().format(*n).as_bytes())
 }
 
-// Puts bytes after the first `len`, where the buffer has room for them, and answers how many it
+// Puts bytes after the first `len`, where the buffer has room for them, and returns how many it
 // needs room for with them.
 fn put(out: &mut [u8], len: usize, bytes: &[u8]) -> usize {
     let end = len + bytes.len();

@@ -2,7 +2,7 @@
 //! A range set among the boundaries of a tracker: it is first measured, and refused if it would
 //! leave too many of them.
 
-use crate::generated::range_chunks::boundaries::{cut_at, splice};
+use crate::generated::range_chunks::boundaries::{cut_at, Splice};
 use crate::generated::range_collections::Comparisons;
 use crate::generated::range_list::{Chunks, Itself, Place, FRONT};
 use crate::generated::range_tracker::{within_limit, TrackError};
@@ -60,14 +60,14 @@ fn set_between(
     limit: usize,
 ) -> Result<usize, TrackError> {
     let count = &mut Comparisons::new();
-    let (from, start) = cut_at(list, range.start, inside, count);
-    let (to, end) = cut_at(list, range.end, inside, count);
+    let (from, start) = cut_at(&*list, range.start, inside, count);
+    let (to, end) = cut_at(&*list, range.end, inside, count);
     let boundaries = len_spliced(list, len, from, to, start, end);
     within_limit(boundaries, limit)?;
     if boundaries == 0 {
         keep_range(list, range);
     } else {
-        splice(list, from, to, start, end)?;
+        Splice::splice(list, from, to, start, end)?;
     }
     Ok(boundaries)
 }

@@ -2,7 +2,8 @@
 //! A list of boundaries in chunks, read and changed as a set's: for a type that keeps such a list
 //! of its own.
 
-pub(crate) use crate::generated::range_chunks::cutting::{cut_at, splice};
 pub(crate) use crate::generated::range_chunks::values::count_members;
 pub(crate) use crate::generated::range_chunks::within::parts_within;
+pub(crate) use crate::generated::range_collections::changes::cut_at;
 pub(crate) use crate::generated::range_collections::questions::has_all;
+pub use crate::generated::range_collections::Splice;

@@ -2,20 +2,22 @@
 //! Sets of ranges that are changed one by one and grow to millions. The boundaries lie in chunks,
 //! so a change moves those of one chunk, and now and then the list of chunks.
 
+pub(crate) mod any_set;
 pub mod boundaries;
-pub(crate) mod cutting;
+pub(crate) mod counting;
 pub(crate) mod gap_bound;
 pub(crate) mod iter;
 pub(crate) mod merging;
+pub(crate) mod relating;
 pub(crate) mod set;
 pub(crate) mod several;
 pub(crate) mod space;
-pub(crate) mod taking;
 pub(crate) mod to_the_end;
 pub(crate) mod values;
 pub(crate) mod window;
 pub(crate) mod within;
 
+pub use any_set::AnySet;
 pub use iter::Iter;
 pub use set::ChunkedRangeSet;
 pub use space::ChunkedSpace;

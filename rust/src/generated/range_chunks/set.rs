@@ -9,6 +9,7 @@ pub(crate) mod making;
 pub(crate) mod many_ranges;
 pub(crate) mod members;
 pub(crate) mod ranges;
+pub(crate) mod relations;
 pub(crate) mod several;
 pub(crate) mod taking;
 

@@ -4,9 +4,9 @@
 //! Only a range that makes the list longer takes memory. Such ranges are put first. If memory runs out,
 //! they are taken out again, which takes none. The others come last, and take none either.
 
-use crate::generated::range_chunks::cutting::{set_between, splice};
 use crate::generated::range_chunks::to_the_end::set_from;
-use crate::generated::range_collections::Comparisons;
+use crate::generated::range_collections::changes::set_between;
+use crate::generated::range_collections::{Comparisons, Splice};
 use crate::generated::range_list::{Chunks, Itself, Place};
 use crate::support::{AllocError, Vec};
 
@@ -115,7 +115,7 @@ fn put_if_longer<T: Ord + Copy>(
         _ => return Ok(()),
     };
     put.reserve(1)?;
-    splice(list, place, place, Some(start), Some(end))?;
+    Splice::splice(list, place, place, Some(start), Some(end))?;
     put.push_reserved(at);
     Ok(())
 }
@@ -147,7 +147,7 @@ fn take_out<T: Ord>(list: &mut Chunks<T, bool>, that: &[T], put: Vec<usize>) {
 fn take_out_at<T: Ord>(list: &mut Chunks<T, bool>, that: &[T], at: usize) {
     let from = list.place_below(&Itself, &that[at], &mut Comparisons::new());
     let to = list.place_after(list.place_after(from));
-    let _taken = splice(list, from, to, None, None);
+    let _taken = Splice::splice(list, from, to, None, None);
 }
 
 // Sets ranges that make the list no longer, which takes no memory.

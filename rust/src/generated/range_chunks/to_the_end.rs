@@ -2,7 +2,7 @@
 //! A range without an end set in a list of boundaries in chunks: the list is cut around the start,
 //! and what lies behind the cut gives way to the start, if that is put.
 
-use crate::generated::range_chunks::cutting::cut_at;
+use crate::generated::range_collections::changes::cut_at;
 use crate::generated::range_collections::Comparisons;
 use crate::generated::range_list::Chunks;
 use crate::support::AllocError;
@@ -29,6 +29,6 @@ pub(crate) fn set_from<T: Ord>(
     inside: bool,
     count: &mut Comparisons,
 ) -> Result<(), AllocError> {
-    let (at, start) = cut_at(list, start, inside, count);
+    let (at, start) = cut_at(&*list, start, inside, count);
     list.replace_from(at, start)
 }

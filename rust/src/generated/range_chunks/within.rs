@@ -2,7 +2,7 @@
 //! The parts of a range that are in a set in chunks, and those that the set leaves out.
 
 use crate::generated::range_collections::questions::{self, take_first, Within};
-use crate::generated::range_collections::{Comparisons, EndedRanges};
+use crate::generated::range_collections::Comparisons;
 use crate::generated::range_list::{Chunks, Items};
 use crate::support::{AllocError, Global};
 use core::iter::FusedIterator;
@@ -47,14 +47,6 @@ impl<'a, T> Iterator for RangesWithin<'a, T> {
 }
 
 impl<'a, T> FusedIterator for RangesWithin<'a, T> {}
-
-impl<'a, T: Copy> EndedRanges<T> for RangesWithin<'a, T> {
-    #[inline(always)]
-    fn next_range(&mut self) -> Option<Range<T>> {
-        let range = self.next()?;
-        Some(*range.start..*range.end)
-    }
-}
 
 /// The parts of `within` whose elements are members where `inside` is true, or else no members.
 ///

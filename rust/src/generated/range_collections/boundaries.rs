@@ -5,6 +5,7 @@ pub(crate) mod slice;
 pub(crate) mod unread;
 
 use crate::generated::range_collections::comparisons::Comparisons;
+pub(crate) use slice::cut_at;
 pub use unread::Unread;
 
 /// Boundaries by reference. A position is before a boundary, or at the end, and its index is the
@@ -53,6 +54,41 @@ pub trait Boundaries<'a, T: Ord + 'a>: Copy {
     /// ensures sharp: AddsAtMost count.old count.new (sharp_cost self.now)
     /// ```
     fn below(&self, value: &T, count: &mut Comparisons) -> Self::Position;
+
+    /// The position of the boundary equal to an element, or in an `Err` the one where it would go.
+    ///
+    /// # Contract
+    ///
+    /// ```text
+    /// requires sorted: IsAscending T.cmp (items self.now)
+    /// requires made: count.old < 2 ^ 126
+    /// ensures positions: MatchResult result (is_position self.now) (is_position self.now)
+    /// ensures found: Finds T.cmp (items self.now) value.now (index self.now) result
+    /// ensures cheap: cost self.now < 2 ^ 65
+    /// ensures comparisons: AddsAtMost count.old count.new (cost self.now)
+    /// ```
+    fn find(&self, value: &T, count: &mut Comparisons) -> Result<Self::Position, Self::Position>;
+
+    /// `find` for an element above all boundaries before a position.
+    ///
+    /// # Contract
+    ///
+    /// ```text
+    /// requires position: is_position self.now from
+    /// requires before: AllWithin (λ y. T.cmp y value.now ≡ Less) (items self.now) 0 (index
+    ///     self.now from)
+    /// requires sorted: IsAscending T.cmp (items self.now)
+    /// requires made: count.old < 2 ^ 125
+    /// ensures positions: MatchResult result (is_position self.now) (is_position self.now)
+    /// ensures found: Finds T.cmp (items self.now) value.now (index self.now) result
+    /// ensures comparisons: AddsAtMost count.old count.new (cost self.now)
+    /// ```
+    fn find_from(
+        &self,
+        from: Self::Position,
+        value: &T,
+        count: &mut Comparisons,
+    ) -> Result<Self::Position, Self::Position>;
 
     /// The position before all boundaries.
     ///

@@ -8,11 +8,13 @@ pub(crate) mod chars;
 pub(crate) mod from_place;
 pub(crate) mod multiples;
 pub(crate) mod numbers;
+pub(crate) mod value_range;
 
 pub use from_place::FromPlace;
 pub use multiples::Multiples;
 
 use crate::generated::range_entry::RangeSetEntry;
+pub use value_range::{ValueEnds, ValueRange};
 
 /// An ordered type whose values stand in a row, at most 2 to the power 128 of them.
 pub trait Countable: RangeSetEntry {

@@ -3,6 +3,7 @@
 //! a member if an odd number of boundaries is at or below it.
 
 pub(crate) mod boundaries;
+pub mod changes;
 pub(crate) mod comparisons;
 pub(crate) mod countable;
 pub(crate) mod iter;
@@ -12,7 +13,6 @@ pub(crate) mod parse;
 pub mod questions;
 pub(crate) mod range_set;
 pub(crate) mod range_set_range;
-pub(crate) mod row;
 pub(crate) mod text;
 pub(crate) mod view;
 pub(crate) mod whole_number;
@@ -25,18 +25,17 @@ pub use crate::generated::range_merge::{
     NoRoom, Run, SliceIterator, SmallVecMergeState, UnionOp, Work, XorOp,
 };
 pub use crate::support::{InPlaceMergeState, InPlaceMergeStateRef};
+pub(crate) use boundaries::cut_at;
 pub use boundaries::{Boundaries, Unread};
+pub use changes::Splice;
 pub use comparisons::{Comparisons, EntryCopier};
-pub use countable::{Countable, FromPlace, Multiples, Unsigned};
+pub use countable::{Countable, FromPlace, Multiples, Unsigned, ValueEnds, ValueRange};
 pub use iter::{Gaps, Iter, RangesWithin};
 pub use members::Members;
 pub use parse::{check_ranges, Expected, ParseError};
-pub(crate) use range_set::cut_at;
 pub use range_set::{RangeSet, RangeSet2};
 pub(crate) use range_set_range::has_elements;
 pub use range_set_range::{write_range, RangeSetRange};
-pub(crate) use row::{first_row_between, place_in, walk_to_row};
-pub use row::{EndedRanges, Row, RowWalk, Until};
 pub use text::write_ranges;
 pub use view::{Cursor, RangeSetRef};
 pub use whole_number::WholeNumber;

@@ -100,7 +100,7 @@ impl<T: EntryClone + WholeNumber, const N: usize> RangeSet<T, N> {
 }
 
 impl<T: WholeNumber> RangeSetRange<T> {
-    /// Reads one range like `0..10` or `20..`, with blanks around it, or answers `None` where the
+    /// Reads one range like `0..10` or `20..`, with blanks around it, or returns `None` where the
     /// text isn't that.
     ///
     /// # Contract

@@ -4,12 +4,15 @@
 
 pub(crate) mod containing;
 pub(crate) mod counting;
+pub(crate) mod first_fit;
 pub(crate) mod next;
 pub(crate) mod parts;
 pub(crate) mod ranges;
 
 pub(crate) use containing::{contains, has_all, has_some, is_all};
 pub(crate) use counting::{covered, rank, select};
+pub(crate) use first_fit::{first_aligned, first_alike, first_gap_of, last_fit, search_fit};
+pub use first_fit::{Fit, FitSearch, Until};
 pub(crate) use next::{next_at, prev_at};
 pub use parts::Within;
 pub(crate) use parts::{overlapping, parts_within, take_first};

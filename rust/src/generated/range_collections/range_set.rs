@@ -18,7 +18,6 @@ pub(crate) mod many_ranges;
 pub(crate) mod operations;
 pub(crate) mod operators;
 pub(crate) mod rank;
-pub(crate) mod splicing;
 pub(crate) mod values;
 
 use crate::generated::range_collections::comparisons::EntryCopier;
@@ -29,7 +28,6 @@ use crate::generated::range_collections::view::RangeSetRef;
 use crate::generated::range_entry::EntryClone;
 use crate::support::{AllocError, Global, SmallVec};
 use copying::copied;
-pub(crate) use splicing::cut_at;
 
 /// A set of values, stored as the sorted list of boundaries between what is in it and what is not.
 ///

@@ -2,11 +2,13 @@
 //! The boundaries of a set in a list in chunks: the mark of a position says whether its index is
 //! odd.
 
-use crate::generated::range_collections::{Boundaries, Comparisons, Unread};
+use crate::generated::range_collections::changes::cut_around;
+use crate::generated::range_collections::{Boundaries, Comparisons, Splice, Unread};
 use crate::generated::range_list::items::Items;
 use crate::generated::range_list::itself::Itself;
 use crate::generated::range_list::list::Chunks;
 use crate::generated::range_list::place::{Place, FRONT};
+use crate::support::AllocError;
 
 impl<'a, T: Ord> Boundaries<'a, T> for &'a Chunks<T, bool> {
     type Position = Place;
@@ -21,6 +23,16 @@ impl<'a, T: Ord> Boundaries<'a, T> for &'a Chunks<T, bool> {
     #[inline(always)]
     fn below(&self, value: &T, count: &mut Comparisons) -> Place {
         (*self).place_below(&Itself, value, count)
+    }
+
+    #[inline(always)]
+    fn find(&self, value: &T, count: &mut Comparisons) -> Result<Place, Place> {
+        (*self).find(&Itself, value, count)
+    }
+
+    #[inline(always)]
+    fn find_from(&self, from: Place, value: &T, count: &mut Comparisons) -> Result<Place, Place> {
+        (*self).find_from(from, &Itself, value, count)
     }
 
     #[inline(always)]
@@ -68,5 +80,49 @@ impl<'a, T> Unread<'a, T> for Items<'a, T, bool> {
     #[inline(always)]
     fn take_last(&mut self) -> Option<&'a T> {
         Items::take_last(self)
+    }
+}
+
+impl<T: Ord> Splice<T> for Chunks<T, bool> {
+    type Position = Place;
+
+    #[inline(always)]
+    fn cuts(
+        &self,
+        start: T,
+        end: T,
+        inside: bool,
+        count: &mut Comparisons,
+    ) -> ((Place, Option<T>), (Place, Option<T>)) {
+        cut_around(self, start, end, inside, count)
+    }
+
+    #[inline(always)]
+    fn splice(
+        &mut self,
+        from: Place,
+        to: Place,
+        start: Option<T>,
+        end: Option<T>,
+    ) -> Result<(), AllocError> {
+        match Chunks::splice(self, from, to, start, end) {
+            Ok(()) => Ok(()),
+            Err(_) => Err(AllocError),
+        }
+    }
+
+    #[inline(always)]
+    fn is_endless(&self) -> bool {
+        self.mark_at(self.end())
+    }
+
+    #[inline(always)]
+    fn take_first_two(&mut self) -> Option<(T, Option<T>)> {
+        self.pop_first_two()
+    }
+
+    #[inline(always)]
+    fn take_last(&mut self) -> Option<T> {
+        self.pop_last()
     }
 }

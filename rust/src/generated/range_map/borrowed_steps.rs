@@ -8,21 +8,20 @@ use crate::support::{AllocError, Global, Vec};
 
 /// Keys, and the option that holds from each of them on. A clause reads it as these.
 pub struct BorrowedSteps<'a, K, V> {
-    pub(crate) steps: Vec<Step<&'a K, &'a V>>,
+    pub(crate) steps: &'a [Step<&'a K, &'a V>],
 }
 
 impl<'a, K, V> BorrowedSteps<'a, K, V> {
-    /// The steps of a map.
+    /// The steps of a list of references.
     ///
     /// # Contract
     ///
     /// ```text
-    /// ensures steps: IfOk result (λ side. side ≡ steps_in steps.now)
-    /// ensures succeeds: joined steps.now ≡ [] → IsOk result
+    /// ensures result ≡ steps_read steps.now
     /// ```
-    pub fn of_steps(alloc: Global, steps: &'a Chunks<Step<K, V>, ()>) -> Result<Self, AllocError> {
-        let steps = references(alloc, steps)?;
-        Ok(BorrowedSteps { steps })
+    #[inline(always)]
+    pub fn new(steps: &'a [Step<&'a K, &'a V>]) -> Self {
+        BorrowedSteps { steps }
     }
 
     /// How many steps there are.
@@ -46,8 +45,9 @@ impl<'a, K, V> BorrowedSteps<'a, K, V> {
     /// ensures HoldsAt (λ k. result.now ≡ k) self.now.keys place
     /// ```
     #[inline(always)]
-    pub(crate) fn key(&self, place: usize) -> &K {
-        self.steps[place].key
+    pub(crate) fn key(&self, place: usize) -> &'a K {
+        let steps = self.steps;
+        steps[place].key
     }
 
     /// The option before a place; none stands before the first.
@@ -59,11 +59,12 @@ impl<'a, K, V> BorrowedSteps<'a, K, V> {
     /// ensures option_copied result ≡ option_before self.now place
     /// ```
     #[inline(always)]
-    pub(crate) fn option_before(&self, place: usize) -> Option<&V> {
+    pub(crate) fn option_before(&self, place: usize) -> Option<&'a V> {
+        let steps = self.steps;
         if place == 0 {
             None
         } else {
-            self.steps[place - 1].option
+            steps[place - 1].option
         }
     }
 
@@ -76,30 +77,21 @@ impl<'a, K, V> BorrowedSteps<'a, K, V> {
     /// ensures (steps_read result.now).keys ≡ drop place self.now.keys
     /// ```
     #[inline(always)]
-    pub(crate) fn behind(&self, place: usize) -> &[Step<&'a K, &'a V>] {
-        &self.steps[place..]
+    pub(crate) fn behind(&self, place: usize) -> &'a [Step<&'a K, &'a V>] {
+        let steps = self.steps;
+        &steps[place..]
     }
 }
 
-impl<'a, K: Ord> BorrowedSteps<'a, K, ()> {
-    /// The steps of the map that has the unit on the members of a set alone.
-    ///
-    /// # Contract
-    ///
-    /// ```text
-    /// ensures keys: IfOk result (λ side. side.keys ≡ set.entry.boundaries.now)
-    /// ensures options: IfOk result (λ side. side.options ≡ on_off true (length
-    ///     set.entry.boundaries.now))
-    /// ensures succeeds: set.entry.boundaries.now ≡ [] → IsOk result
-    /// ```
-    pub fn of_set(alloc: Global, set: RangeSetRef<'a, K>) -> Result<Self, AllocError> {
-        let steps = units(alloc, set.boundaries)?;
-        Ok(BorrowedSteps { steps })
-    }
-}
-
-// References to the steps, in order.
-fn references<'a, K, V>(
+/// References to the steps of a map, in order.
+///
+/// # Contract
+///
+/// ```text
+/// ensures steps: IfOk result (λ list. steps_read list.items ≡ steps_in steps.now)
+/// ensures succeeds: joined steps.now ≡ [] → IsOk result
+/// ```
+pub fn references<'a, K, V>(
     alloc: Global,
     steps: &'a Chunks<Step<K, V>, ()>,
 ) -> Result<Vec<Step<&'a K, &'a V>>, AllocError> {
@@ -114,8 +106,17 @@ fn references<'a, K, V>(
     Ok(list)
 }
 
-// A step at each boundary: by turns with the unit, first, and with none.
-fn units<'a, K>(
+/// The steps of the map that has the unit on the members of a set alone: one at each boundary.
+///
+/// # Contract
+///
+/// ```text
+/// ensures keys: IfOk result (λ list. (steps_read list.items).keys ≡ boundaries.now)
+/// ensures options: IfOk result (λ list. (steps_read list.items).options ≡ on_off true (length
+///     boundaries.now))
+/// ensures succeeds: boundaries.now ≡ [] → IsOk result
+/// ```
+pub fn units<'a, K>(
     alloc: Global,
     boundaries: &'a [K],
 ) -> Result<Vec<Step<&'a K, &'a ()>>, AllocError> {

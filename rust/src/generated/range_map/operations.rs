@@ -3,6 +3,7 @@
 //! lies in a set.
 
 use crate::generated::range_map::operation::MapOperation;
+use crate::generated::range_map::update::MapUpdate;
 use crate::generated::range_map::value::{copy_option, MapValue};
 use crate::support::AllocError;
 
@@ -71,6 +72,21 @@ impl<V: MapValue> MapOperation<V, ()> for Within {
             copy_option(left)
         } else {
             Ok(None)
+        }
+    }
+}
+
+/// What an update makes of the left inside the right.
+pub struct Updating<'a, O>(pub &'a O);
+
+impl<V: MapValue, O: MapUpdate<V>> MapOperation<V, ()> for Updating<'_, O> {
+    type Output = V;
+
+    fn apply(&self, left: Option<&V>, right: Option<&()>) -> Result<Option<V>, AllocError> {
+        if right.is_some() {
+            self.0.apply(left)
+        } else {
+            copy_option(left)
         }
     }
 }

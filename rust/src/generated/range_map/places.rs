@@ -15,15 +15,6 @@ pub struct Places {
     pub ends: bool,
 }
 
-/// The steps that a range touches: those at its start, if there is one, between, and at its end.
-#[derive(Clone, Copy)]
-pub struct Window {
-    pub from: Place,
-    pub after: Place,
-    pub below: Place,
-    pub to: Place,
-}
-
 /// The places of a range that is given the option.
 ///
 /// # Contract
@@ -115,64 +106,6 @@ fn place_up_to_end<K: Ord, V>(
     match end {
         Some(end) => place_up_to(steps, end, count),
         None => steps.end(),
-    }
-}
-
-/// The window of a range.
-///
-/// # Contract
-///
-/// ```text
-/// requires ascending: IsAscending K.cmp (steps_in steps.now).keys
-/// requires some: (e : K) → end.now ≡ Some e → K.cmp start.now e ≡ Less
-/// ensures IsWindow K.cmp steps.now start.now end.now result
-/// ```
-pub(crate) fn find_window<K: Ord, V>(
-    steps: &Chunks<Step<K, V>, ()>,
-    start: &K,
-    end: &Option<K>,
-) -> Window {
-    let from = place_below(steps, start, &mut Comparisons::new());
-    let after = behind_key(steps, from, start);
-    let below = place_below_end(steps, end);
-    let to = behind_end(steps, below, end);
-    Window {
-        from,
-        after,
-        below,
-        to,
-    }
-}
-
-// The place before which all keys are below the end: that of all steps, if there is none.
-fn place_below_end<K: Ord, V>(steps: &Chunks<Step<K, V>, ()>, end: &Option<K>) -> Place {
-    match end {
-        Some(end) => place_below(steps, end, &mut Comparisons::new()),
-        None => steps.end(),
-    }
-}
-
-// The place behind the step at the end, if there is one.
-fn behind_end<K: Ord, V>(steps: &Chunks<Step<K, V>, ()>, at: Place, end: &Option<K>) -> Place {
-    match end {
-        Some(end) => behind_key(steps, at, end),
-        None => at,
-    }
-}
-
-// The place behind the step at a place, if its key is this one, and else the place itself.
-fn behind_key<K: Ord, V>(steps: &Chunks<Step<K, V>, ()>, at: Place, key: &K) -> Place {
-    if is_at(steps, at, key) {
-        return steps.place_after(at);
-    }
-    at
-}
-
-// Whether the key at a place is this one.
-fn is_at<K: Ord, V>(steps: &Chunks<Step<K, V>, ()>, at: Place, key: &K) -> bool {
-    match key_at(steps, at) {
-        Some(own) => own.cmp(key).is_eq(),
-        None => false,
     }
 }
 

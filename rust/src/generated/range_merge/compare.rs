@@ -42,7 +42,7 @@ pub trait Compare<K>: Sized {
 
 /// What a comparer of type `C` has done by another one: a stage of a merge.
 pub trait Work<K, C: Compare<K>> {
-    /// What it answers.
+    /// What it returns.
     type Answer;
 
     /// Does it, and gives the comparer back.
@@ -57,7 +57,7 @@ pub trait Work<K, C: Compare<K>> {
     /// ```
     fn run(&mut self, cmp: C) -> Done<C, Self::Answer>;
 
-    /// What it answers if nothing of it is done.
+    /// What it returns if nothing of it is done.
     ///
     /// # Contract
     ///
@@ -68,11 +68,11 @@ pub trait Work<K, C: Compare<K>> {
     fn undone(&self) -> Self::Answer;
 }
 
-/// What some work answers, with the comparer that it was given.
+/// What some work returns, with the comparer that it was given.
 pub struct Done<C, A> {
     /// The comparer, which counted.
     pub cmp: C,
-    /// The answer.
+    /// The result.
     pub answer: A,
 }
 

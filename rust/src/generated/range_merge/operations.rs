@@ -3,7 +3,7 @@
 
 /// A boolean operation on two sides (a connective), and where it changes.
 pub trait MergeOperation {
-    /// Whether the answer changes where the left side alone does, while the right is as `bc` says.
+    /// Whether the result changes where the left side alone does, while the right is as `bc` says.
     ///
     /// # Contract
     ///
@@ -12,7 +12,7 @@ pub trait MergeOperation {
     /// ```
     fn takes_a(&self, bc: bool) -> bool;
 
-    /// Whether the answer changes where the right side alone does, while the left is as `ac` says.
+    /// Whether the result changes where the right side alone does, while the left is as `ac` says.
     ///
     /// # Contract
     ///
@@ -21,7 +21,7 @@ pub trait MergeOperation {
     /// ```
     fn takes_b(&self, ac: bool) -> bool;
 
-    /// Whether the answer changes where both sides do, which stood as `ac` and `bc` say.
+    /// Whether the result changes where both sides do, which stood as `ac` and `bc` say.
     ///
     /// # Contract
     ///
@@ -30,7 +30,7 @@ pub trait MergeOperation {
     /// ```
     fn takes_both(&self, ac: bool, bc: bool) -> bool;
 
-    /// The answer where both sides are off.
+    /// The result where both sides are off.
     ///
     /// # Contract
     ///
@@ -52,16 +52,16 @@ pub struct DiffOp;
 /// In one of the two sets and not in the other.
 pub struct XorOp;
 
-/// Any of the sixteen connectives, by its four answers.
+/// Any of the sixteen connectives, by its four results.
 #[derive(Clone, Copy, Debug, PartialEq, Eq)]
 pub struct Connective {
-    /// The answer where both sides are off.
+    /// The result where both sides are off.
     pub neither: bool,
-    /// The answer where the left side alone is on.
+    /// The result where the left side alone is on.
     pub left: bool,
-    /// The answer where the right side alone is on.
+    /// The result where the right side alone is on.
     pub right: bool,
-    /// The answer where both sides are on.
+    /// The result where both sides are on.
     pub both: bool,
 }
 
@@ -176,7 +176,7 @@ impl MergeOperation for Connective {
 }
 
 impl Connective {
-    // The answer where the sides are as `ac` and `bc` say.
+    // The result where the sides are as `ac` and `bc` say.
     #[inline(always)]
     fn answer(&self, ac: bool, bc: bool) -> bool {
         match (ac, bc) {

@@ -138,7 +138,7 @@ struct Bracket {
 
 /// How many items at the front of a side are below `key`, where the first is known to be.
 ///
-/// For an answer of `n` it makes at most twice as many comparisons as `n` has binary digits, less
+/// For a result of `n` it makes at most twice as many comparisons as `n` has binary digits, less
 /// one. Most runs are of one item, so the second is looked at before any step is doubled.
 #[inline(always)]
 pub(crate) fn gallop<K, L: Indexed<K>, C: Compare<K>>(side: &L, key: &K, cmp: &mut C) -> Below {

@@ -2,12 +2,8 @@
 //! A tracker of received offsets, as of a file that comes in pieces: which are there, which are
 //! missing, and no more boundaries than a limit.
 
-pub(crate) mod command;
-pub(crate) mod limit;
 pub(crate) mod track_error;
 pub(crate) mod tracker;
 
-pub use command::Command;
-pub use limit::within_limit;
-pub use track_error::TrackError;
-pub use tracker::Tracker;
+pub use track_error::{within_limit, TrackError};
+pub use tracker::{Command, Tracker};

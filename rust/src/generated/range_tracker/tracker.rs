@@ -8,11 +8,18 @@
 use crate::generated::range_collections::{
     Comparisons, DiffOp, Iter, MergeOperation, RangeSet2, RangeSetRef, UnionOp,
 };
-use crate::generated::range_tracker::command::Command;
-use crate::generated::range_tracker::limit::within_limit;
-use crate::generated::range_tracker::track_error::TrackError;
+use crate::generated::range_tracker::track_error::{within_limit, TrackError};
 use crate::support::{AllocError, Global};
 use core::ops::Range;
+
+/// A change of the offsets that a tracker has.
+#[derive(Debug, PartialEq, Eq)]
+pub enum Command {
+    /// The offsets of the range are there.
+    Add(Range<u64>),
+    /// The offsets of the range aren't there.
+    Forget(Range<u64>),
+}
 
 /// Which offsets are there. A clause reads it as the strictly sorted list of their boundaries and
 /// the limit.

@@ -1,5 +1,5 @@
-//! The keys of a map as a set by copies that may fail: of keys by `EntryClone`, and of values by
-//! `MapValue`. These are the proved calls.
+//! A copy of a map, and its keys as a set, by copies that may fail: of keys by `EntryClone`, and of
+//! values by `MapValue`. These are the proved calls.
 
 use crate::array::List;
 use crate::fallible::{EntryClone, MapValue, RangeMap};
@@ -7,6 +7,10 @@ use crate::map::Kept;
 use crate::memory::AllocError;
 
 impl<K: EntryClone, V: MapValue> RangeMap<K, V> {
+    pub(super) fn try_copy(&self) -> Result<Self, AllocError> {
+        self.try_clone()
+    }
+
     pub(super) fn try_domain<L: List<Item = K>>(&self) -> Result<L, AllocError> {
         L::of_domain(&self.0)
     }

@@ -52,7 +52,7 @@ pub(crate) fn last<T: Ord + Copy>(
 }
 
 // Writes the boundaries of the ranges that share a number with the one from `start` to below `end`
-// to the front of `out`, of as many ranges as have room for two, and answers how many boundaries
+// to the front of `out`, of as many ranges as have room for two, and returns how many boundaries
 // these are.
 pub(crate) fn overlapping<T: Ord + Copy>(
     set: &ChunkedRangeSet<T>,

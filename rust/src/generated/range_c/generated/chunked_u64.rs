@@ -65,7 +65,7 @@ impl ChunkedU64 {
         *self = ChunkedU64::of_parts(Parts::of(set));
     }
 
-    // Puts a set into a box of its own, and that in the place of none. It answers whether there was
+    // Puts a set into a box of its own, and that in the place of none. It returns whether there was
     // memory for it.
     fn fill(&mut self, alloc: Global, set: ChunkedSpace<u64>) -> bool {
         match Box::new(alloc, SetU64 { set }) {
@@ -78,14 +78,14 @@ impl ChunkedU64 {
     }
 }
 
-/// Makes an empty set, and answers whether there was memory for it.
+/// Makes an empty set, and returns whether there was memory for it.
 #[no_mangle]
 pub unsafe extern "C" fn plain_range_set_u64_chunked_new(set: &mut ChunkedU64) -> bool {
     let alloc = Global;
     set.fill(alloc, ChunkedSpace::new(alloc))
 }
 
-/// Makes a set with the boundaries of a list, and answers whether there was memory for it.
+/// Makes a set with the boundaries of a list, and returns whether there was memory for it.
 #[no_mangle]
 pub unsafe extern "C" fn plain_range_set_u64_chunked_of(
     set: &mut ChunkedU64,
@@ -107,7 +107,7 @@ pub unsafe extern "C" fn plain_range_set_u64_chunked_free(set: &mut ChunkedU64) 
     let _freed = set.take(alloc);
 }
 
-/// Puts the numbers from `start` to below `end` in, and answers whether there was memory for it. If there was none, the set is as it was.
+/// Puts the numbers from `start` to below `end` in, and returns whether there was memory for it. If there was none, the set is as it was.
 #[no_mangle]
 pub unsafe extern "C" fn plain_range_set_u64_chunked_insert(
     set: &mut ChunkedU64,
@@ -121,7 +121,7 @@ pub unsafe extern "C" fn plain_range_set_u64_chunked_insert(
     done
 }
 
-/// Puts the numbers from `start` on in, and answers whether there was memory for it. If there was none, the set is as it was.
+/// Puts the numbers from `start` on in, and returns whether there was memory for it. If there was none, the set is as it was.
 #[no_mangle]
 pub unsafe extern "C" fn plain_range_set_u64_chunked_insert_from(
     set: &mut ChunkedU64,
@@ -134,7 +134,7 @@ pub unsafe extern "C" fn plain_range_set_u64_chunked_insert_from(
     done
 }
 
-/// Takes the numbers from `start` to below `end` out, and answers whether there was memory for it. If there was none, the set is as it was.
+/// Takes the numbers from `start` to below `end` out, and returns whether there was memory for it. If there was none, the set is as it was.
 #[no_mangle]
 pub unsafe extern "C" fn plain_range_set_u64_chunked_remove(
     set: &mut ChunkedU64,
@@ -148,7 +148,7 @@ pub unsafe extern "C" fn plain_range_set_u64_chunked_remove(
     done
 }
 
-/// Takes the numbers from `start` on out, and answers whether there was memory for it. If there was none, the set is as it was.
+/// Takes the numbers from `start` on out, and returns whether there was memory for it. If there was none, the set is as it was.
 #[no_mangle]
 pub unsafe extern "C" fn plain_range_set_u64_chunked_remove_from(
     set: &mut ChunkedU64,
@@ -161,7 +161,7 @@ pub unsafe extern "C" fn plain_range_set_u64_chunked_remove_from(
     done
 }
 
-/// Puts the members of a list in, and answers whether there was memory for it. If there was none, the set is as it was.
+/// Puts the members of a list in, and returns whether there was memory for it. If there was none, the set is as it was.
 #[no_mangle]
 pub unsafe extern "C" fn plain_range_set_u64_chunked_insert_all(
     set: &mut ChunkedU64,
@@ -176,7 +176,7 @@ pub unsafe extern "C" fn plain_range_set_u64_chunked_insert_all(
     done
 }
 
-/// Takes the members of a list out, and answers whether there was memory for it. If there was none, the set is as it was.
+/// Takes the members of a list out, and returns whether there was memory for it. If there was none, the set is as it was.
 #[no_mangle]
 pub unsafe extern "C" fn plain_range_set_u64_chunked_remove_all(
     set: &mut ChunkedU64,
@@ -323,7 +323,7 @@ pub unsafe extern "C" fn plain_range_set_u64_chunked_last(
     answer
 }
 
-/// Writes the boundaries of the ranges that share a number with the one from `start` to below `end` to the front of `out`, of as many ranges as have room for two, and answers how many boundaries these are.
+/// Writes the boundaries of the ranges that share a number with the one from `start` to below `end` to the front of `out`, of as many ranges as have room for two, and returns how many boundaries these are.
 #[no_mangle]
 pub unsafe extern "C" fn plain_range_set_u64_chunked_overlapping(
     set: &mut ChunkedU64,
@@ -508,7 +508,7 @@ pub unsafe extern "C" fn plain_range_set_u64_chunked_boundaries_len(set: &mut Ch
     answer
 }
 
-/// Writes the boundaries to the front of `out`, if it has room for them, and answers how many there are.
+/// Writes the boundaries to the front of `out`, if it has room for them, and returns how many there are.
 #[no_mangle]
 pub unsafe extern "C" fn plain_range_set_u64_chunked_copy(
     set: &mut ChunkedU64,

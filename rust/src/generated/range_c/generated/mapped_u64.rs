@@ -61,7 +61,7 @@ impl MappedU64 {
         *self = MappedU64::of_parts(Parts::of(map));
     }
 
-    // Puts a map into a box of its own, and that in the place of none. It answers whether there was
+    // Puts a map into a box of its own, and that in the place of none. It returns whether there was
     // memory for it.
     fn fill(&mut self, alloc: Global, map: RangeMap<u64, u64>) -> bool {
         match Box::new(alloc, MapU64 { map }) {
@@ -74,14 +74,14 @@ impl MappedU64 {
     }
 }
 
-/// Makes an empty map, and answers whether there was memory for it.
+/// Makes an empty map, and returns whether there was memory for it.
 #[no_mangle]
 pub unsafe extern "C" fn plain_range_map_u64_new(map: &mut MappedU64) -> bool {
     let alloc = Global;
     map.fill(alloc, RangeMap::new(alloc))
 }
 
-/// Makes a map of the same values as `from`, and answers whether there was memory for it.
+/// Makes a map of the same values as `from`, and returns whether there was memory for it.
 #[no_mangle]
 pub unsafe extern "C" fn plain_range_map_u64_copy(
     map: &mut MappedU64,
@@ -104,7 +104,7 @@ pub unsafe extern "C" fn plain_range_map_u64_free(map: &mut MappedU64) {
     let _freed = map.take(alloc);
 }
 
-/// Gives the keys from `start` to below `end` the value, and answers whether there was memory for it. If there was none, the map is as it was.
+/// Gives the keys from `start` to below `end` the value, and returns whether there was memory for it. If there was none, the map is as it was.
 #[no_mangle]
 pub unsafe extern "C" fn plain_range_map_u64_insert(
     map: &mut MappedU64,
@@ -119,7 +119,7 @@ pub unsafe extern "C" fn plain_range_map_u64_insert(
     done
 }
 
-/// Gives the keys from `start` on the value, and answers whether there was memory for it. If there was none, the map is as it was.
+/// Gives the keys from `start` on the value, and returns whether there was memory for it. If there was none, the map is as it was.
 #[no_mangle]
 pub unsafe extern "C" fn plain_range_map_u64_insert_from(
     map: &mut MappedU64,
@@ -133,7 +133,7 @@ pub unsafe extern "C" fn plain_range_map_u64_insert_from(
     done
 }
 
-/// Takes the values of the keys from `start` to below `end` away, and answers whether there was memory for it. If there was none, the map is as it was.
+/// Takes the values of the keys from `start` to below `end` away, and returns whether there was memory for it. If there was none, the map is as it was.
 #[no_mangle]
 pub unsafe extern "C" fn plain_range_map_u64_remove(
     map: &mut MappedU64,
@@ -147,7 +147,7 @@ pub unsafe extern "C" fn plain_range_map_u64_remove(
     done
 }
 
-/// Takes the values of the keys from `start` on away, and answers whether there was memory for it. If there was none, the map is as it was.
+/// Takes the values of the keys from `start` on away, and returns whether there was memory for it. If there was none, the map is as it was.
 #[no_mangle]
 pub unsafe extern "C" fn plain_range_map_u64_remove_from(map: &mut MappedU64, start: u64) -> bool {
     let alloc = Global;

@@ -143,7 +143,7 @@ pub unsafe extern "C" fn plain_range_set_i64_equal(
     RangeSetRef::new_unchecked(a) == RangeSetRef::new_unchecked(b)
 }
 
-/// Writes what the connective makes of both sets, and answers how many boundaries that is. It has to be off where neither side is on.
+/// Writes what the connective makes of both sets, and returns how many boundaries that is. It has to be off where neither side is on.
 #[no_mangle]
 pub unsafe extern "C" fn plain_range_set_i64_combine(
     a: *const i64,
@@ -160,7 +160,7 @@ pub unsafe extern "C" fn plain_range_set_i64_combine(
     combine(a, b, connective, out)
 }
 
-/// Writes what the connective makes of both sets among all numbers of the type, and answers how many boundaries that is. It may be on where neither side is.
+/// Writes what the connective makes of both sets among all numbers of the type, and returns how many boundaries that is. It may be on where neither side is.
 #[no_mangle]
 pub unsafe extern "C" fn plain_range_set_i64_combine_from(
     a: *const i64,
@@ -190,7 +190,7 @@ pub unsafe extern "C" fn plain_range_set_i64_negation(
     merge(a, &[i64::MIN], &XorOp, out)
 }
 
-/// Puts the numbers from `start` to below `end` into the set of the first `len` boundaries, and answers how many it has then. Where the buffer has no room for them it is as it was.
+/// Puts the numbers from `start` to below `end` into the set of the first `len` boundaries, and returns how many it has then. Where the buffer has no room for them it is as it was.
 #[no_mangle]
 pub unsafe extern "C" fn plain_range_set_i64_insert(
     buffer: *mut i64,
@@ -203,7 +203,7 @@ pub unsafe extern "C" fn plain_range_set_i64_insert(
     insert(buffer, len, start, end)
 }
 
-/// Takes the numbers from `start` to below `end` out of the set of the first `len` boundaries, and answers how many it has then. Where the buffer has no room for them it is as it was.
+/// Takes the numbers from `start` to below `end` out of the set of the first `len` boundaries, and returns how many it has then. Where the buffer has no room for them it is as it was.
 #[no_mangle]
 pub unsafe extern "C" fn plain_range_set_i64_remove(
     buffer: *mut i64,
@@ -216,7 +216,7 @@ pub unsafe extern "C" fn plain_range_set_i64_remove(
     remove(buffer, len, start, end)
 }
 
-/// Leaves in the buffer what the connective makes of the set of its first `len` boundaries and another, and answers how many boundaries that is; where there is no room for that set and the result, the room that both take, and the buffer is as it was. The connective has to be off where neither side is on.
+/// Leaves in the buffer what the connective makes of the set of its first `len` boundaries and another, and returns how many boundaries that is; where there is no room for that set and the result, the room that both take, and the buffer is as it was. The connective has to be off where neither side is on.
 #[no_mangle]
 pub unsafe extern "C" fn plain_range_set_i64_combine_within(
     buffer: *mut i64,
@@ -458,7 +458,7 @@ pub unsafe extern "C" fn plain_range_set_i64_first_run(
     first_run(a, start..end, u128::from(count), at)
 }
 
-/// Sorts the numbers, in any order, and moves the distinct ones to the front, as many as it answers.
+/// Sorts the numbers, in any order, and moves the distinct ones to the front, as many as it returns.
 #[no_mangle]
 pub unsafe extern "C" fn plain_range_set_i64_from_unsorted(
     items: *mut i64,
@@ -494,7 +494,7 @@ impl Ends for RangeI64 {
     }
 }
 
-/// Moves the ranges of the set of all numbers in the ranges to the front, as many as it answers. They may stand in any order, overlap and touch; empty and reversed ones have no number.
+/// Moves the ranges of the set of all numbers in the ranges to the front, as many as it returns. They may stand in any order, overlap and touch; empty and reversed ones have no number.
 #[no_mangle]
 pub unsafe extern "C" fn plain_range_set_i64_from_ranges(
     ranges: *mut RangeI64,
@@ -504,7 +504,7 @@ pub unsafe extern "C" fn plain_range_set_i64_from_ranges(
     from_ranges(ranges)
 }
 
-/// Moves the ranges with an end of the set of all numbers in the ranges and, if `is_open`, of all from `from` on, to the front, and answers how many these are. If `is_open`, it writes to `from` where the range without an end starts.
+/// Moves the ranges with an end of the set of all numbers in the ranges and, if `is_open`, of all from `from` on, to the front, and returns how many these are. If `is_open`, it writes to `from` where the range without an end starts.
 #[no_mangle]
 pub unsafe extern "C" fn plain_range_set_i64_union_from(
     ranges: *mut RangeI64,
@@ -516,7 +516,7 @@ pub unsafe extern "C" fn plain_range_set_i64_union_from(
     union_told(ranges, is_open, from)
 }
 
-/// Writes the ranges as a text, `0..10, 20..`, where the buffer has room for it, and answers how many bytes that is. Where it has no room the buffer is as it was.
+/// Writes the ranges as a text, `0..10, 20..`, where the buffer has room for it, and returns how many bytes that is. Where it has no room the buffer is as it was.
 #[no_mangle]
 pub unsafe extern "C" fn plain_range_set_i64_print(
     a: *const i64,
@@ -529,7 +529,7 @@ pub unsafe extern "C" fn plain_range_set_i64_print(
     print(a, out)
 }
 
-/// Answers 0 if the bytes are a text of ranges, as `0..10, 20..`, and writes how many numbers it has. Else it answers 1 and writes the byte at which they stop being one, 2 if a number doesn't fit the type, or 3 and writes the byte from which on they aren't UTF-8.
+/// Returns 0 if the bytes are a text of ranges, as `0..10, 20..`, and writes how many numbers it has. Else it returns 1 and writes the byte at which they stop being one, 2 if a number doesn't fit the type, or 3 and writes the byte from which on they aren't UTF-8.
 #[no_mangle]
 pub unsafe extern "C" fn plain_range_set_i64_check_text(
     text: *const u8,
@@ -540,7 +540,7 @@ pub unsafe extern "C" fn plain_range_set_i64_check_text(
     check::<i64>(text, told)
 }
 
-/// Leaves the ranges with an end of the set of a text's ranges at the front of the buffer, and answers how many these are. It writes whether the set has a range without an end after them, and if so where that starts.
+/// Leaves the ranges with an end of the set of a text's ranges at the front of the buffer, and returns how many these are. It writes whether the set has a range without an end after them, and if so where that starts.
 #[no_mangle]
 pub unsafe extern "C" fn plain_range_set_i64_parse(
     text: *const u8,

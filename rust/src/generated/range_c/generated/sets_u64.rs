@@ -143,7 +143,7 @@ pub unsafe extern "C" fn plain_range_set_u64_equal(
     RangeSetRef::new_unchecked(a) == RangeSetRef::new_unchecked(b)
 }
 
-/// Writes what the connective makes of both sets, and answers how many boundaries that is. It has to be off where neither side is on.
+/// Writes what the connective makes of both sets, and returns how many boundaries that is. It has to be off where neither side is on.
 #[no_mangle]
 pub unsafe extern "C" fn plain_range_set_u64_combine(
     a: *const u64,
@@ -160,7 +160,7 @@ pub unsafe extern "C" fn plain_range_set_u64_combine(
     combine(a, b, connective, out)
 }
 
-/// Writes what the connective makes of both sets among all numbers of the type, and answers how many boundaries that is. It may be on where neither side is.
+/// Writes what the connective makes of both sets among all numbers of the type, and returns how many boundaries that is. It may be on where neither side is.
 #[no_mangle]
 pub unsafe extern "C" fn plain_range_set_u64_combine_from(
     a: *const u64,
@@ -190,7 +190,7 @@ pub unsafe extern "C" fn plain_range_set_u64_negation(
     merge(a, &[u64::MIN], &XorOp, out)
 }
 
-/// Puts the numbers from `start` to below `end` into the set of the first `len` boundaries, and answers how many it has then. Where the buffer has no room for them it is as it was.
+/// Puts the numbers from `start` to below `end` into the set of the first `len` boundaries, and returns how many it has then. Where the buffer has no room for them it is as it was.
 #[no_mangle]
 pub unsafe extern "C" fn plain_range_set_u64_insert(
     buffer: *mut u64,
@@ -203,7 +203,7 @@ pub unsafe extern "C" fn plain_range_set_u64_insert(
     insert(buffer, len, start, end)
 }
 
-/// Takes the numbers from `start` to below `end` out of the set of the first `len` boundaries, and answers how many it has then. Where the buffer has no room for them it is as it was.
+/// Takes the numbers from `start` to below `end` out of the set of the first `len` boundaries, and returns how many it has then. Where the buffer has no room for them it is as it was.
 #[no_mangle]
 pub unsafe extern "C" fn plain_range_set_u64_remove(
     buffer: *mut u64,
@@ -216,7 +216,7 @@ pub unsafe extern "C" fn plain_range_set_u64_remove(
     remove(buffer, len, start, end)
 }
 
-/// Leaves in the buffer what the connective makes of the set of its first `len` boundaries and another, and answers how many boundaries that is; where there is no room for that set and the result, the room that both take, and the buffer is as it was. The connective has to be off where neither side is on.
+/// Leaves in the buffer what the connective makes of the set of its first `len` boundaries and another, and returns how many boundaries that is; where there is no room for that set and the result, the room that both take, and the buffer is as it was. The connective has to be off where neither side is on.
 #[no_mangle]
 pub unsafe extern "C" fn plain_range_set_u64_combine_within(
     buffer: *mut u64,
@@ -455,7 +455,7 @@ pub unsafe extern "C" fn plain_range_set_u64_first_run(
     first_run(a, start..end, u128::from(count), at)
 }
 
-/// Sorts the numbers, in any order, and moves the distinct ones to the front, as many as it answers.
+/// Sorts the numbers, in any order, and moves the distinct ones to the front, as many as it returns.
 #[no_mangle]
 pub unsafe extern "C" fn plain_range_set_u64_from_unsorted(
     items: *mut u64,
@@ -491,7 +491,7 @@ impl Ends for RangeU64 {
     }
 }
 
-/// Moves the ranges of the set of all numbers in the ranges to the front, as many as it answers. They may stand in any order, overlap and touch; empty and reversed ones have no number.
+/// Moves the ranges of the set of all numbers in the ranges to the front, as many as it returns. They may stand in any order, overlap and touch; empty and reversed ones have no number.
 #[no_mangle]
 pub unsafe extern "C" fn plain_range_set_u64_from_ranges(
     ranges: *mut RangeU64,
@@ -501,7 +501,7 @@ pub unsafe extern "C" fn plain_range_set_u64_from_ranges(
     from_ranges(ranges)
 }
 
-/// Moves the ranges with an end of the set of all numbers in the ranges and, if `is_open`, of all from `from` on, to the front, and answers how many these are. If `is_open`, it writes to `from` where the range without an end starts.
+/// Moves the ranges with an end of the set of all numbers in the ranges and, if `is_open`, of all from `from` on, to the front, and returns how many these are. If `is_open`, it writes to `from` where the range without an end starts.
 #[no_mangle]
 pub unsafe extern "C" fn plain_range_set_u64_union_from(
     ranges: *mut RangeU64,
@@ -513,7 +513,7 @@ pub unsafe extern "C" fn plain_range_set_u64_union_from(
     union_told(ranges, is_open, from)
 }
 
-/// Writes the ranges as a text, `0..10, 20..`, where the buffer has room for it, and answers how many bytes that is. Where it has no room the buffer is as it was.
+/// Writes the ranges as a text, `0..10, 20..`, where the buffer has room for it, and returns how many bytes that is. Where it has no room the buffer is as it was.
 #[no_mangle]
 pub unsafe extern "C" fn plain_range_set_u64_print(
     a: *const u64,
@@ -526,7 +526,7 @@ pub unsafe extern "C" fn plain_range_set_u64_print(
     print(a, out)
 }
 
-/// Answers 0 if the bytes are a text of ranges, as `0..10, 20..`, and writes how many numbers it has. Else it answers 1 and writes the byte at which they stop being one, 2 if a number doesn't fit the type, or 3 and writes the byte from which on they aren't UTF-8.
+/// Returns 0 if the bytes are a text of ranges, as `0..10, 20..`, and writes how many numbers it has. Else it returns 1 and writes the byte at which they stop being one, 2 if a number doesn't fit the type, or 3 and writes the byte from which on they aren't UTF-8.
 #[no_mangle]
 pub unsafe extern "C" fn plain_range_set_u64_check_text(
     text: *const u8,
@@ -537,7 +537,7 @@ pub unsafe extern "C" fn plain_range_set_u64_check_text(
     check::<u64>(text, told)
 }
 
-/// Leaves the ranges with an end of the set of a text's ranges at the front of the buffer, and answers how many these are. It writes whether the set has a range without an end after them, and if so where that starts.
+/// Leaves the ranges with an end of the set of a text's ranges at the front of the buffer, and returns how many these are. It writes whether the set has a range without an end after them, and if so where that starts.
 #[no_mangle]
 pub unsafe extern "C" fn plain_range_set_u64_parse(
     text: *const u8,

@@ -2,9 +2,9 @@
 //! The calls that take a counter: a set of `n` boundaries has at most `n` chunks, so a search makes
 //! at most as many comparisons as `n` has binary digits, and those of 512.
 
-use crate::generated::range_chunks::cutting::set_range;
 use crate::generated::range_chunks::set::ChunkedRangeSet;
 use crate::generated::range_chunks::to_the_end::set_from;
+use crate::generated::range_collections::changes::set_range;
 use crate::generated::range_collections::questions::{contains, has_all};
 use crate::generated::range_collections::Comparisons;
 use crate::support::AllocError;

@@ -2,32 +2,32 @@
 //! Where a stretch of values fits beside the members, or in them.
 
 use crate::generated::range_chunks::set::ChunkedRangeSet;
-use crate::generated::range_chunks::within::parts_within;
-use crate::generated::range_collections::{
-    first_row_between, Comparisons, Countable, FromPlace, Multiples, Row, Unsigned,
-};
-use core::ops::Range;
+use crate::generated::range_collections::questions::{first_aligned, first_alike, first_gap_of};
+use crate::generated::range_collections::{Countable, FromPlace, Unsigned, ValueRange};
+use crate::generated::range_list::Chunks;
 
 impl<T: Unsigned> ChunkedRangeSet<T> {
     /// The least number from which `len` numbers lie in the range, none of them a member, or `None`
     /// if there is no such number. If `len` is 0, it is the start of the range, unless that is
-    /// reversed.
+    /// reversed. A range without an end goes up to the greatest number.
     ///
-    /// It looks at each gap from the start up to the answer, and takes no memory.
+    /// It looks at each gap from the start up to the result, and takes no memory.
     ///
     /// # Contract
     ///
     /// ```text
-    /// ensures fits: IfSome result (Fits T.cmp T.place self.now within.start within.end len)
+    /// ensures fits: IfSome result (Fits T.cmp T.place self.now (R.start within) (R.end within)
+    ///     len)
     /// ensures free: IfSome result (λ at. (x : T) → T.place at ≤ T.place x → T.place x < T.place at
     ///     + T.place len → member T.cmp self.now x ≡ false)
-    /// ensures least: IfSome result (λ x. (y : T) → Fits T.cmp T.place self.now within.start
-    ///     within.end len y → T.place x ≤ T.place y)
-    /// ensures none: IfNone result ((x : T) → ¬ (Fits T.cmp T.place self.now within.start
-    ///     within.end len x))
+    /// ensures least: IfSome result (λ x. (y : T) → Fits T.cmp T.place self.now (R.start within)
+    ///     (R.end within) len y → T.place x ≤ T.place y)
+    /// ensures none: IfNone result ((x : T) → ¬ (Fits T.cmp T.place self.now (R.start within)
+    ///     (R.end within) len x))
     /// ```
-    pub fn first_fit_unchanged(&self, within: Range<T>, len: T) -> Option<T> {
-        self.first_fit_count_unchanged(within, len.place())
+    pub fn first_fit_unchanged<R: ValueRange<T>>(&self, within: R, len: T) -> Option<T> {
+        let range = within.ends();
+        first_gap_of(&self.list, &range, len)
     }
 }
 
@@ -36,101 +36,88 @@ impl<T: Ord> ChunkedRangeSet<T> {
     pub(crate) fn chunks_len(&self) -> usize {
         self.list.chunks_len()
     }
+
+    // The boundaries.
+    pub(crate) fn boundaries(&self) -> &Chunks<T, bool> {
+        &self.list
+    }
 }
 
 impl<T: Countable + Copy> ChunkedRangeSet<T> {
     /// The least value from which `count` values lie in the range, none of them a member, or `None`
-    /// if there is none. If `count` is 0, it is the start of the range, unless that is reversed.
+    /// if there is none. If `count` is 0, it is the start of the range, unless that is reversed. A
+    /// range without an end goes up to the greatest value.
     ///
-    /// It looks at each gap from the start up to the answer, and takes no memory.
+    /// It looks at each gap from the start up to the result, and takes no memory.
     ///
     /// # Contract
     ///
     /// ```text
-    /// ensures fits: IfSome result (λ at. IsRow T.cmp T.value false self.now (T.place within.start)
-    ///     (T.place within.end) count (T.place at))
-    /// ensures least: IfSome result (λ at. (n : ℕ) → IsRow T.cmp T.value false self.now (T.place
-    ///     within.start) (T.place within.end) count n → T.place at ≤ n)
-    /// ensures none: IfNone result ((n : ℕ) → ¬ (IsRow T.cmp T.value false self.now (T.place
-    ///     within.start) (T.place within.end) count n))
-    /// // It starts the first gap that is long enough.
-    /// ensures first: 0 < count → IsFirstFit T.cmp T.place self.now within.start within.end count
-    ///     result
-    /// ensures nothing: count ≡ 0 → result ≡ cond (is_le (T.cmp within.start within.end)) (Some
-    ///     within.start) None
+    /// ensures fits: IfSome result (λ at. IsFit T.cmp T.value false self.now (R.start within)
+    ///     (R.end within) count (T.place at))
+    /// ensures least: IfSome result (λ at. (n : ℕ) → IsFit T.cmp T.value false self.now (R.start
+    ///     within) (R.end within) count n → T.place at ≤ n)
+    /// ensures none: IfNone result ((n : ℕ) → ¬ (IsFit T.cmp T.value false self.now (R.start
+    ///     within) (R.end within) count n))
+    /// // Of a range with an end, it starts the first gap that is long enough.
+    /// ensures first: (s e : T) → R.is_from_to within s e → 0 < count → IsFirstFit T.cmp T.place
+    ///     self.now s e count result
+    /// ensures nothing: (s e : T) → R.is_from_to within s e → count ≡ 0 → result ≡ cond (is_le
+    ///     (T.cmp s e)) (Some s) None
     /// ```
-    pub fn first_fit_count_unchanged(&self, within: Range<T>, count: u128) -> Option<T> {
-        let Range { start, end } = within;
-        let row = self.first_row(&start, &end, false, count, Multiples::of_one())?;
-        Some(row.start)
+    pub fn first_fit_count_unchanged<R: ValueRange<T>>(&self, within: R, count: u128) -> Option<T> {
+        let range = within.ends();
+        first_alike(&self.list, &range, false, count)
     }
 
     /// The least value from which `count` members in a row lie in the range, or `None` if there is
-    /// none. If `count` is 0, it is the start of the range, unless that is reversed.
+    /// none. If `count` is 0, it is the start of the range, unless that is reversed. A range without
+    /// an end goes up to the greatest value.
     ///
-    /// It looks at each range from the start up to the answer, and takes no memory.
+    /// It looks at each range from the start up to the result, and takes no memory.
     ///
     /// # Contract
     ///
     /// ```text
-    /// ensures fits: IfSome result (λ at. IsRow T.cmp T.value true self.now (T.place within.start)
-    ///     (T.place within.end) count (T.place at))
-    /// ensures least: IfSome result (λ at. (n : ℕ) → IsRow T.cmp T.value true self.now (T.place
-    ///     within.start) (T.place within.end) count n → T.place at ≤ n)
-    /// ensures none: IfNone result ((n : ℕ) → ¬ (IsRow T.cmp T.value true self.now (T.place
-    ///     within.start) (T.place within.end) count n))
+    /// ensures fits: IfSome result (λ at. IsFit T.cmp T.value true self.now (R.start within) (R.end
+    ///     within) count (T.place at))
+    /// ensures least: IfSome result (λ at. (n : ℕ) → IsFit T.cmp T.value true self.now (R.start
+    ///     within) (R.end within) count n → T.place at ≤ n)
+    /// ensures none: IfNone result ((n : ℕ) → ¬ (IsFit T.cmp T.value true self.now (R.start within)
+    ///     (R.end within) count n))
     /// ```
-    pub fn first_run(&self, within: Range<T>, count: u128) -> Option<T> {
-        let Range { start, end } = within;
-        let row = self.first_row(&start, &end, true, count, Multiples::of_one())?;
-        Some(row.start)
-    }
-
-    // The first `count` values in a row, from one of the multiples on, which are members exactly if
-    // `inside`. It is inlined, so that nothing is divided for the multiples of 1.
-    #[inline(always)]
-    fn first_row(
-        &self,
-        start: &T,
-        end: &T,
-        inside: bool,
-        count: u128,
-        multiples: Multiples,
-    ) -> Option<Row<T>> {
-        let parts = parts_within(&self.list, start..end, inside, &mut Comparisons::new());
-        first_row_between(start, end, parts, count, multiples)
+    pub fn first_run<R: ValueRange<T>>(&self, within: R, count: u128) -> Option<T> {
+        let range = within.ends();
+        first_alike(&self.list, &range, true, count)
     }
 }
 
 impl<T: FromPlace> ChunkedRangeSet<T> {
     /// The least multiple of `align` from which `count` values lie in the range, none of them a
-    /// member. `None` if there is none, or if `align` is 0. The number of a `char` is its place.
+    /// member. `None` if there is none, or if `align` is 0. The number of a `char` is its place. A
+    /// range without an end goes up to the greatest value.
     ///
-    /// It looks at each gap from the start up to the answer, and takes no memory.
+    /// It looks at each gap from the start up to the result, and takes no memory.
     ///
     /// # Contract
     ///
     /// ```text
-    /// ensures fits: IfSome result (λ at. IsRow T.cmp T.value false self.now (T.place within.start)
-    ///     (T.place within.end) count (T.place at))
+    /// ensures fits: IfSome result (λ at. IsFit T.cmp T.value false self.now (R.start within)
+    ///     (R.end within) count (T.place at))
     /// ensures aligned: IfSome result (λ at. IsMultiple T.zero align (T.place at))
-    /// ensures least: IfSome result (λ at. (n : ℕ) → IsMultiple T.zero align n → IsRow T.cmp
-    ///     T.value false self.now (T.place within.start) (T.place within.end) count n → T.place at
-    ///     ≤ n)
-    /// ensures none: 0 < align → IfNone result ((n : ℕ) → IsMultiple T.zero align n → ¬ (IsRow
-    ///     T.cmp T.value false self.now (T.place within.start) (T.place within.end) count n))
+    /// ensures least: IfSome result (λ at. (n : ℕ) → IsMultiple T.zero align n → IsFit T.cmp
+    ///     T.value false self.now (R.start within) (R.end within) count n → T.place at ≤ n)
+    /// ensures none: 0 < align → IfNone result ((n : ℕ) → n < T.count → IsMultiple T.zero align n →
+    ///     ¬ (IsFit T.cmp T.value false self.now (R.start within) (R.end within) count n))
     /// ensures no_align: align ≡ 0 → result ≡ None
     /// ```
-    pub fn first_fit_aligned(&self, within: Range<T>, count: u128, align: u128) -> Option<T> {
-        if align == 0 {
-            return None;
-        }
-        T::from_place(self.first_aligned_place(&within.start, &within.end, count, align)?)
-    }
-
-    // The place of that value.
-    fn first_aligned_place(&self, start: &T, end: &T, count: u128, align: u128) -> Option<u128> {
-        let row = self.first_row(start, end, false, count, Multiples::among::<T>(align))?;
-        Some(row.place)
+    pub fn first_fit_aligned<R: ValueRange<T>>(
+        &self,
+        within: R,
+        count: u128,
+        align: u128,
+    ) -> Option<T> {
+        let range = within.ends();
+        first_aligned(&self.list, &range, count, align)
     }
 }

@@ -8,10 +8,16 @@ use crate::generated::range_chunks::values::count_members;
 use crate::generated::range_chunks::within::{parts_within, Gaps, RangesWithin};
 use crate::generated::range_collections::questions::{is_all, overlapping, range_at};
 use crate::generated::range_collections::{Comparisons, Countable, RangeSetEntry, RangeSetRange};
+use crate::generated::range_list::Chunks;
 use crate::support::DivUp;
 use core::ops::{Range, RangeFrom};
 
 impl<T: Ord> ChunkedRangeSet<T> {
+    // The list of the boundaries.
+    pub(crate) fn chunks(&self) -> &Chunks<T, bool> {
+        &self.list
+    }
+
     /// The first range, or `None` if the set is empty.
     ///
     /// # Contract

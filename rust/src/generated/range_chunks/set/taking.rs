@@ -2,7 +2,7 @@
 //! Whole ranges taken out of a set at its ends, which takes no memory.
 
 use crate::generated::range_chunks::set::ChunkedRangeSet;
-use crate::generated::range_chunks::taking::{pop_first, pop_last};
+use crate::generated::range_collections::changes::{take_first_range, take_last_range};
 use crate::generated::range_collections::RangeSetRange;
 
 impl<T: Ord> ChunkedRangeSet<T> {
@@ -16,7 +16,7 @@ impl<T: Ord> ChunkedRangeSet<T> {
     ///     self.old ≡ range ∷ ranges_of self.new)
     /// ```
     pub fn pop_first(&mut self) -> Option<RangeSetRange<T>> {
-        pop_first(&mut self.list)
+        take_first_range(&mut self.list)
     }
 
     /// Removes the last range and returns it, or `None` if the set is empty. It makes no comparison
@@ -29,6 +29,6 @@ impl<T: Ord> ChunkedRangeSet<T> {
     ///     self.old ≡ ranges_of self.new ++ range ∷ [])
     /// ```
     pub fn pop_last(&mut self) -> Option<RangeSetRange<T>> {
-        pop_last(&mut self.list)
+        take_last_range(&mut self.list)
     }
 }

@@ -3,10 +3,12 @@
 
 use crate::generated::range_chunks::gap_bound::{first_above, forget_wasted, stop_of, GapBound};
 use crate::generated::range_chunks::space::ChunkedSpace;
-use crate::generated::range_collections::{
-    walk_to_row, Countable, FromPlace, Multiples, Row, RowWalk, Until,
+use crate::generated::range_collections::questions::{
+    first_aligned, first_alike, last_fit, parts_within, search_fit, Fit, FitSearch, Until,
 };
-use core::ops::Range;
+use crate::generated::range_collections::{
+    Comparisons, Countable, FromPlace, Multiples, ValueEnds, ValueRange,
+};
 
 // How many gaps a bound is for at most.
 const GAPS: usize = 512;
@@ -14,7 +16,7 @@ const GAPS: usize = 512;
 /// What a step of a search found.
 pub enum SearchStep<T> {
     /// It fits there.
-    At(Row<T>),
+    At(Fit<T>),
     /// It fits nowhere below.
     From(T),
     /// It fits nowhere.
@@ -30,33 +32,61 @@ impl<T: Countable + Copy> ChunkedSpace<T> {
     ///
     /// ```text
     /// ensures unchanged: self.new ≡ self.old
-    /// ensures fits: IfSome result (λ at. IsRow T.cmp T.value false self.old (T.place within.start)
-    ///     (T.place within.end) count (T.place at))
-    /// ensures least: IfSome result (λ at. (n : ℕ) → IsRow T.cmp T.value false self.old (T.place
-    ///     within.start) (T.place within.end) count n → T.place at ≤ n)
-    /// ensures none: IfNone result ((n : ℕ) → ¬ (IsRow T.cmp T.value false self.old (T.place
-    ///     within.start) (T.place within.end) count n))
-    /// ensures nothing: count ≡ 0 → result ≡ cond (is_le (T.cmp within.start within.end)) (Some
-    ///     within.start) None
+    /// ensures fits: IfSome result (λ at. IsFit T.cmp T.value false self.old (R.start within)
+    ///     (R.end within) count (T.place at))
+    /// ensures least: IfSome result (λ at. (n : ℕ) → IsFit T.cmp T.value false self.old (R.start
+    ///     within) (R.end within) count n → T.place at ≤ n)
+    /// ensures none: IfNone result ((n : ℕ) → ¬ (IsFit T.cmp T.value false self.old (R.start
+    ///     within) (R.end within) count n))
+    /// ensures nothing: (s e : T) → R.is_from_to within s e → count ≡ 0 → result ≡ cond (is_le
+    ///     (T.cmp s e)) (Some s) None
     /// ```
-    pub fn first_fit_count(&mut self, within: Range<T>, count: u128) -> Option<T> {
-        if count == 0 {
-            return self.taken.first_fit_count_unchanged(within, 0);
-        }
-        let Range { start, end } = within;
-        let row = self.first_row(start, end, count, Multiples::of_one())?;
-        Some(row.start)
+    pub fn first_fit_count<R: ValueRange<T>>(&mut self, within: R, count: u128) -> Option<T> {
+        let range = within.ends();
+        self.first_free(&range, count)
     }
 
-    // The first `count` values in a row that are free from one of the multiples on.
-    fn first_row(&mut self, start: T, end: T, count: u128, multiples: Multiples) -> Option<Row<T>> {
+    // The least value from which `count` values lie between the ends and are free.
+    fn first_free(&mut self, ends: &ValueEnds<T>, count: u128) -> Option<T> {
+        if count == 0 {
+            return first_alike(self.taken.boundaries(), ends, false, 0);
+        }
+        let fit = self.first_fit_in(ends, count, Multiples::of_one())?;
+        Some(fit.start)
+    }
+
+    // The first `count` values in a row between the ends that are free from one of the multiples on.
+    fn first_fit_in(
+        &mut self,
+        ends: &ValueEnds<T>,
+        count: u128,
+        multiples: Multiples,
+    ) -> Option<Fit<T>> {
+        if let Some(fit) = self.first_fit_between(ends.start, ends.end, count, multiples) {
+            return Some(fit);
+        }
+        if !ends.closed {
+            return None;
+        }
+        let list = self.taken.boundaries();
+        last_fit(list, &ends.start, &ends.end, false, count, multiples)
+    }
+
+    // The same from a value to below another.
+    fn first_fit_between(
+        &mut self,
+        start: T,
+        end: T,
+        count: u128,
+        multiples: Multiples,
+    ) -> Option<Fit<T>> {
         self.forget_wasted();
         let mut from = start;
         let mut at = 0;
         while from.place() < end.place() {
             at = first_above(self.bounds.as_slice(), at, from.place());
             match self.step(at, from, end, count, multiples) {
-                SearchStep::At(row) => return Some(row),
+                SearchStep::At(fit) => return Some(fit),
                 SearchStep::From(next) => from = next,
                 SearchStep::Nowhere => return None,
             }
@@ -82,12 +112,14 @@ impl<T: Countable + Copy> ChunkedSpace<T> {
             return SearchStep::From(past);
         }
         let until = Until {
-            ranges: GAPS,
+            parts: GAPS,
             place: stop_of(self.bounds.as_slice(), at, from.place()),
         };
-        match walk_to_row(self.taken.gaps(&from..&end), count, multiples, Some(until)) {
-            RowWalk::Found(row) => SearchStep::At(row),
-            RowWalk::Stopped { end: next, most } => {
+        let list = self.taken.boundaries();
+        let gaps = parts_within(list, &from..&end, false, &mut Comparisons::new());
+        match search_fit(gaps, count, multiples, Some(until)) {
+            FitSearch::Found(fit) => SearchStep::At(fit),
+            FitSearch::Stopped { end: next, most } => {
                 let bound = GapBound {
                     start: from,
                     end: next,
@@ -98,7 +130,7 @@ impl<T: Countable + Copy> ChunkedSpace<T> {
                 self.note(at, bound);
                 SearchStep::From(next)
             }
-            RowWalk::End => SearchStep::Nowhere,
+            FitSearch::End => SearchStep::Nowhere,
         }
     }
 
@@ -146,30 +178,44 @@ impl<T: FromPlace> ChunkedSpace<T> {
     ///
     /// ```text
     /// ensures unchanged: self.new ≡ self.old
-    /// ensures fits: IfSome result (λ at. IsRow T.cmp T.value false self.old (T.place within.start)
-    ///     (T.place within.end) count (T.place at))
+    /// ensures fits: IfSome result (λ at. IsFit T.cmp T.value false self.old (R.start within)
+    ///     (R.end within) count (T.place at))
     /// ensures aligned: IfSome result (λ at. IsMultiple T.zero align (T.place at))
-    /// ensures least: IfSome result (λ at. (n : ℕ) → IsMultiple T.zero align n → IsRow T.cmp
-    ///     T.value false self.old (T.place within.start) (T.place within.end) count n → T.place at
-    ///     ≤ n)
-    /// ensures none: 0 < align → IfNone result ((n : ℕ) → IsMultiple T.zero align n → ¬ (IsRow
-    ///     T.cmp T.value false self.old (T.place within.start) (T.place within.end) count n))
+    /// ensures least: IfSome result (λ at. (n : ℕ) → IsMultiple T.zero align n → IsFit T.cmp
+    ///     T.value false self.old (R.start within) (R.end within) count n → T.place at ≤ n)
+    /// ensures none: 0 < align → IfNone result ((n : ℕ) → n < T.count → IsMultiple T.zero align n →
+    ///     ¬ (IsFit T.cmp T.value false self.old (R.start within) (R.end within) count n))
     /// ensures no_align: align ≡ 0 → result ≡ None
     /// ```
-    pub fn first_fit_aligned(&mut self, within: Range<T>, count: u128, align: u128) -> Option<T> {
+    pub fn first_fit_aligned<R: ValueRange<T>>(
+        &mut self,
+        within: R,
+        count: u128,
+        align: u128,
+    ) -> Option<T> {
+        let range = within.ends();
+        self.first_aligned_free(&range, count, align)
+    }
+
+    // The same between ends.
+    fn first_aligned_free(&mut self, ends: &ValueEnds<T>, count: u128, align: u128) -> Option<T> {
         if align == 0 {
             return None;
         }
         if count == 0 {
-            return self.taken.first_fit_aligned(within, 0, align);
+            return first_aligned(self.taken.boundaries(), ends, 0, align);
         }
-        T::from_place(self.first_aligned_place(within, count, align)?)
+        T::from_place(self.first_aligned_place(ends, count, align)?)
     }
 
     // The place of that value.
-    fn first_aligned_place(&mut self, within: Range<T>, count: u128, align: u128) -> Option<u128> {
-        let Range { start, end } = within;
-        let row = self.first_row(start, end, count, Multiples::among::<T>(align))?;
-        Some(row.place)
+    fn first_aligned_place(
+        &mut self,
+        ends: &ValueEnds<T>,
+        count: u128,
+        align: u128,
+    ) -> Option<u128> {
+        let fit = self.first_fit_in(ends, count, Multiples::among::<T>(align))?;
+        Some(fit.place)
     }
 }

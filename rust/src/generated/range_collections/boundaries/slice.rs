@@ -2,6 +2,7 @@
 //! Boundaries in a slice: a position is its index.
 
 use crate::generated::range_collections::boundaries::Boundaries;
+use crate::generated::range_collections::changes::cut;
 use crate::generated::range_collections::comparisons::Comparisons;
 use crate::generated::range_collections::lists::is_odd;
 use crate::generated::range_merge::{count_up_to, search};
@@ -22,6 +23,16 @@ impl<'a, T: Ord> Boundaries<'a, T> for &'a [T] {
             Ok(i) => i,
             Err(i) => i,
         }
+    }
+
+    #[inline(always)]
+    fn find(&self, value: &T, count: &mut Comparisons) -> Result<usize, usize> {
+        search(*self, value, count)
+    }
+
+    #[inline(always)]
+    fn find_from(&self, _from: usize, value: &T, count: &mut Comparisons) -> Result<usize, usize> {
+        search(*self, value, count)
     }
 
     #[inline(always)]
@@ -61,4 +72,25 @@ impl<'a, T: Ord> Boundaries<'a, T> for &'a [T] {
     fn between(&self, from: usize, to: usize) -> &'a [T] {
         &(*self)[from..to]
     }
+}
+
+/// `changes::cut_at` for a slice. It takes a counter that has made more comparisons.
+///
+/// # Contract
+///
+/// ```text
+/// requires sorted: IsAscending T.cmp items.now
+/// requires made: count.old < 2 ^ 127
+/// ensures cut: IsCut T.cmp inside items.now at result.0 result.1
+/// ensures comparisons: AddsAtMost count.old count.new (digits (length items.now))
+/// ```
+#[inline]
+pub(crate) fn cut_at<T: Ord>(
+    items: &[T],
+    at: T,
+    inside: bool,
+    count: &mut Comparisons,
+) -> (usize, Option<T>) {
+    let found = search(items, &at, count);
+    cut(items, found, at, inside)
 }

@@ -4,9 +4,9 @@
 //! The list stays strictly sorted. What is put there is compared with the last one or two
 //! boundaries, and only where these don't decide is the list searched.
 
+use crate::generated::range_collections::boundaries::cut_at;
 use crate::generated::range_collections::comparisons::Comparisons;
 use crate::generated::range_collections::lists::is_odd;
-use crate::generated::range_collections::range_set::splicing::cut_at;
 use crate::support::{append_both, AllocError, SmallVec};
 
 // Whether a range from the element on touches the last one of the set with these boundaries. `None`

@@ -4,9 +4,9 @@
 //! The start and the end are searched for. What lies between gives way to those of the two at which
 //! the set changes. The list grows by two boundaries or not at all.
 
+use crate::generated::range_collections::changes::set_range;
 use crate::generated::range_collections::comparisons::Comparisons;
 use crate::generated::range_collections::questions::{has_all, has_some};
-use crate::generated::range_collections::range_set::splicing::set_range;
 use crate::generated::range_collections::range_set::RangeSet;
 use crate::support::AllocError;
 use core::ops::Range;

@@ -15,12 +15,12 @@
 //!                 put_from: without an end, a set of its own, to `add_all`
 //! ```
 
+use crate::generated::range_collections::changes::Splice;
 use crate::generated::range_collections::comparisons::Comparisons;
 use crate::generated::range_collections::range_set::at_end::{
     cut_near_end, put_at_end, touches_end,
 };
 use crate::generated::range_collections::range_set::joining::joined;
-use crate::generated::range_collections::range_set::splicing::splice;
 use crate::generated::range_collections::range_set::RangeSet;
 use crate::generated::range_collections::range_set_range::{has_elements, RangeSetRange};
 use crate::generated::range_entry::EntryClone;
@@ -297,5 +297,5 @@ fn put_within<T: Ord, const N: usize>(
 ) -> Result<(), AllocError> {
     let (from, start) = cut_near_end(list.as_slice(), start);
     let (to, end) = cut_near_end(list.as_slice(), end);
-    splice(list, from, to, start, end)
+    list.splice(from, to, start, end)
 }

@@ -61,7 +61,7 @@ impl<'a, T: FromPlace> RangeSetRef<'a, T> {
 
     /// The member with `k` members below it, or `None` if there are no more than `k`.
     ///
-    /// It looks at each boundary up to the answer once, and takes no memory.
+    /// It looks at each boundary up to the result once, and takes no memory.
     ///
     /// # Contract
     ///

@@ -4,8 +4,8 @@
 use crate::generated::range_collections::{
     has_elements, Comparisons, Copier, EntryClone, EntryCopier,
 };
-use crate::generated::range_map::map::combining::put;
 use crate::generated::range_map::map::RangeMap;
+use crate::generated::range_map::putting::put;
 use crate::support::{AllocError, Global, SortIn, Vec};
 use core::ops::Range;
 
@@ -103,16 +103,16 @@ fn swept<K: Ord, C: Copier<K>>(
     ends: &[K],
     copier: &C,
 ) -> Result<RangeMap<K, usize>, AllocError> {
-    let mut made = RangeMap::new(alloc);
+    let mut list = Vec::new(alloc);
     let mut i = 0;
     let mut j = 0;
     while j < ends.len() {
         let key = first_of(starts, i, &ends[j]);
         i = past(starts, i, key);
         j = past(ends, j, key);
-        put(&mut made, key, number_or_none(i - j), copier)?;
+        put(None, &mut list, key, number_or_none(i - j), copier)?;
     }
-    Ok(made)
+    RangeMap::of_steps(list)
 }
 
 // The start at a place if that is below the end, and the end otherwise.

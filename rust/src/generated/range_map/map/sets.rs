@@ -5,8 +5,8 @@
 use crate::generated::range_collections::{
     Comparisons, Copier, EntryClone, EntryCopier, RangeSet, RangeSetRef,
 };
-use crate::generated::range_map::borrowed_steps::BorrowedSteps;
-use crate::generated::range_map::map::combining::combined;
+use crate::generated::range_map::borrowed_steps::{units, BorrowedSteps};
+use crate::generated::range_map::in_place::{combine_in_place, steps_within};
 use crate::generated::range_map::map::RangeMap;
 use crate::generated::range_map::operations::{HasThis, HasValue, Within};
 use crate::generated::range_map::step::StepKey;
@@ -56,7 +56,8 @@ impl<K: EntryClone, V: Eq> RangeMap<K, V> {
 }
 
 impl<K: EntryClone, V: MapValue> RangeMap<K, V> {
-    /// The map on the members of the set alone.
+    /// The map on the members of the set alone. It looks at the ranges from the first member on, up
+    /// to the last.
     ///
     /// # Contract
     ///
@@ -66,10 +67,10 @@ impl<K: EntryClone, V: MapValue> RangeMap<K, V> {
     /// ensures succeeds: length self.now.keys ≡ 0 → IsOk result
     /// ```
     pub fn restrict(&self, alloc: Global, set: RangeSetRef<K>) -> Result<Self, AllocError> {
-        self.within(alloc, set, true, &EntryCopier)
+        self.restrict_by(alloc, set, &EntryCopier)
     }
 
-    /// The map without the members of the set.
+    /// The map without the members of the set: a clone, from which they are taken away.
     ///
     /// # Contract
     ///
@@ -79,32 +80,72 @@ impl<K: EntryClone, V: MapValue> RangeMap<K, V> {
     /// ensures succeeds: length self.now.keys ≡ 0 → IsOk result
     /// ```
     pub fn without(&self, alloc: Global, set: RangeSetRef<K>) -> Result<Self, AllocError> {
-        self.within(alloc, set, false, &EntryCopier)
+        if self.steps.is_empty() {
+            return Ok(RangeMap::new(alloc));
+        }
+        let mut map = self.try_clone()?;
+        map.remove_all(set)?;
+        Ok(map)
+    }
+
+    /// Takes the values of the members of the set away. It makes the steps from the first member on,
+    /// up to the last, anew. If memory runs out, the map is as it was.
+    ///
+    /// # Contract
+    ///
+    /// ```text
+    /// ensures values: OnOk result ((x : K) → AreAlike V.eq (value_at K.cmp self.new x) (cond
+    ///     (member K.cmp set.entry.boundaries.now x) None (value_at K.cmp self.old x)))
+    /// ensures unchanged: OnErr result (self.new ≡ self.old)
+    /// ensures none: length set.entry.boundaries.now ≡ 0 → (self.new ≡ self.old) × IsOk result
+    /// ```
+    pub fn remove_all(&mut self, set: RangeSetRef<K>) -> Result<(), AllocError> {
+        self.remove_all_by(set, &EntryCopier)
+    }
+
+    /// Takes all values away but those of the members of the set, as `restrict` does. If memory runs
+    /// out, the map is as it was.
+    ///
+    /// # Contract
+    ///
+    /// ```text
+    /// ensures values: OnOk result ((x : K) → AreAlike V.eq (value_at K.cmp self.new x) (cond
+    ///     (member K.cmp set.entry.boundaries.now x) (value_at K.cmp self.old x) None))
+    /// ensures unchanged: OnErr result (self.new ≡ self.old)
+    /// ensures none: length self.old.keys ≡ 0 → IsOk result
+    /// ```
+    pub fn retain_all(&mut self, set: RangeSetRef<K>) -> Result<(), AllocError> {
+        *self = self.restrict_by(self.steps.allocator(), set, &EntryCopier)?;
+        Ok(())
     }
 }
 
 impl<K: Ord, V: MapValue> RangeMap<K, V> {
-    // The map on the members of the set, or else on the others.
-    pub(crate) fn within<C: Copier<K>>(
+    // The map on the members of the set alone, with copies of keys by any copier.
+    pub(crate) fn restrict_by<C: Copier<K>>(
         &self,
         alloc: Global,
         set: RangeSetRef<K>,
-        inside: bool,
         copier: &C,
     ) -> Result<Self, AllocError> {
         if self.steps.is_empty() {
             return Ok(RangeMap::new(alloc));
         }
-        let left = self.borrowed_steps(alloc)?;
-        let right = BorrowedSteps::of_set(alloc, set)?;
-        combined(
-            alloc,
-            &left,
-            &right,
-            &Within { inside },
-            copier,
-            &mut Comparisons::new(),
-        )
+        let units = units(alloc, set.boundaries)?;
+        let right = BorrowedSteps::new(&units);
+        let list = steps_within(&self.steps, &right, &Within { inside: true }, copier)?;
+        RangeMap::of_steps(list)
+    }
+
+    // Takes the values of the members of the set away, with copies of keys by any copier.
+    pub(crate) fn remove_all_by<C: Copier<K>>(
+        &mut self,
+        set: RangeSetRef<K>,
+        copier: &C,
+    ) -> Result<(), AllocError> {
+        let units = units(self.steps.allocator(), set.boundaries)?;
+        let right = BorrowedSteps::new(&units);
+        combine_in_place(&mut self.steps, &right, &Within { inside: false }, copier)
     }
 }
 

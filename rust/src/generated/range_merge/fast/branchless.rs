@@ -57,7 +57,7 @@ fn first_comparison<K, C: Compare<K>>(items: &[K], key: &K, cmp: &mut C, levels:
     let past = items.len() - power + 1;
     let how = cmp.compare(&items[power - 1], key);
     AtOrBelow {
-        // A shift by the answer would make each search wait for the one before.
+        // A shift by the result would make each search wait for the one before.
         len: select_unpredictable(how.is_le(), past, 0),
         has_equal: how.is_eq(),
     }

@@ -37,17 +37,6 @@ pub(crate) struct ReadSoFar {
 }
 
 impl ReadSoFar {
-    /// The start of both lists, where nothing was read.
-    #[inline(always)]
-    pub(crate) fn start(next: Ordering) -> Self {
-        ReadSoFar {
-            i: 0,
-            j: 0,
-            k: 0,
-            next,
-        }
-    }
-
     /// The first unread items of lists that begin at their last even places: the second item of one
     /// whose side is on, the first of one whose side is off.
     #[inline(always)]
@@ -68,6 +57,17 @@ impl ReadSoFar {
             i: self.i % 2,
             j: self.j % 2,
             k,
+            next: self.next,
+        }
+    }
+
+    /// How far a read came from a place on, where nothing had been put out.
+    #[inline(always)]
+    pub(crate) fn since(self, from: Self) -> Self {
+        ReadSoFar {
+            i: self.i - from.i,
+            j: self.j - from.j,
+            k: self.k,
             next: self.next,
         }
     }

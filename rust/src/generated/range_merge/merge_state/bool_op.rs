@@ -49,7 +49,7 @@ impl<'a, K> BoolOpMergeState<'a, K> {
         cmp: &mut C,
     ) -> bool {
         let mut state = Self::new(a, b);
-        // Nothing is lost: whether the merge stopped is what the state answers.
+        // Nothing is lost: whether the merge stopped is what the state returns.
         let _ = merging::merge(&mut state, op, cmp);
         state.result()
     }

@@ -10,57 +10,33 @@ use crate::generated::range_merge::operations::MergeOperation;
 use crate::support::select_unpredictable;
 use core::cmp::Ordering;
 
-/// An operation from where the sides stand so: each is on where it changed an odd number of times
-/// if it was off, and an even number of times if it was on.
-pub(crate) struct Relative<'a, O: MergeOperation> {
-    pub(crate) op: &'a O,
-    pub(crate) ac: bool,
-    pub(crate) bc: bool,
-}
-
-impl<'a, O: MergeOperation> MergeOperation for Relative<'a, O> {
-    #[inline(always)]
-    fn takes_a(&self, bc: bool) -> bool {
-        self.op.takes_a(self.bc != bc)
-    }
-
-    #[inline(always)]
-    fn takes_b(&self, ac: bool) -> bool {
-        self.op.takes_b(self.ac != ac)
-    }
-
-    #[inline(always)]
-    fn takes_both(&self, ac: bool, bc: bool) -> bool {
-        self.op.takes_both(self.ac != ac, self.bc != bc)
-    }
-
-    #[inline(always)]
-    fn when_off(&self) -> bool {
-        self.op.when_off() != is_on(self.op, self.ac, self.bc)
-    }
-}
-
-/// Whether the answer differs from the one where both sides are off.
-#[inline(always)]
-pub(crate) fn is_on<O: MergeOperation>(op: &O, ac: bool, bc: bool) -> bool {
-    (ac & op.takes_a(false)) != (bc & op.takes_b(ac))
-}
-
-// How far some steps came, and whether a run is long there.
+/// How far some steps came, and whether a run is long there.
 #[derive(Clone, Copy)]
-struct Looked {
-    at: ReadSoFar,
-    is_long: bool,
+pub(crate) struct Looked {
+    pub(crate) at: ReadSoFar,
+    pub(crate) is_long: bool,
+}
+
+/// Whether the result changes where the left side alone does. It is asked for both truths of the
+/// right one, so that a loop asks only once.
+#[inline(always)]
+pub(crate) fn takes_left<O: MergeOperation>(op: &O, bc: bool) -> bool {
+    let off = op.takes_a(false);
+    off != (bc & (off != op.takes_a(true)))
+}
+
+// Whether the result changes where the right side alone does, asked for in the same way.
+#[inline(always)]
+fn takes_right<O: MergeOperation>(op: &O, ac: bool) -> bool {
+    let off = op.takes_b(false);
+    off != (ac & (off != op.takes_b(true)))
 }
 
 // Whether a step takes what it reads: an item of the left list, and then one of the right. So it
 // takes it as the right side stands before the step, and as the left one does after it.
 #[inline(always)]
 fn is_taken<O: MergeOperation>(op: &O, next: Ordering, bc: bool, then_ac: bool) -> bool {
-    // Asked for each truth, so that a loop asks only once.
-    let left = (bc & op.takes_a(true)) | (!bc & op.takes_a(false));
-    let right = (then_ac & op.takes_b(true)) | (!then_ac & op.takes_b(false));
-    (next.is_le() & left) != (next.is_ge() & right)
+    (next.is_le() & takes_left(op, bc)) != (next.is_ge() & takes_right(op, then_ac))
 }
 
 // The next item of each list, beside the list, so that a step need not wait until it is read.
@@ -84,9 +60,30 @@ fn one_of<K, P: Copier<K>>(first: bool, one: &K, other: &K, by: &P) -> K {
     select_unpredictable(first, copied(one, by), copied(other, by))
 }
 
-// Reads the first item, or one of each list where they are equal, and compares the next two. An
-// item that isn't taken is written over by the next one that is. If it `keeps` what stands behind
-// those that are, what stood at its place is written back.
+// Writes an item behind the `k` that are put out, and returns how many then are. An item that isn't
+// taken is written over by the next one that is. If it `keeps` what stands behind those, it reads
+// what stands at the new end first and writes that back, so that it never chooses what to write.
+#[inline(always)]
+fn put<K, P: Copier<K>>(
+    out: &mut [K],
+    k: usize,
+    takes: bool,
+    item: &K,
+    by: &P,
+    keeps: bool,
+) -> usize {
+    let len = k + takes as usize;
+    if !keeps {
+        out[k] = copied(item, by);
+        return len;
+    }
+    let behind = copied(&out[len], by);
+    out[k] = copied(item, by);
+    out[len] = behind;
+    len
+}
+
+// Reads the first item, or one of each list where they are equal, and compares the next two.
 #[inline(always)]
 fn step<K, P: Copier<K>, O: MergeOperation, C: Compare<K>>(
     a: &[K],
@@ -105,8 +102,7 @@ fn step<K, P: Copier<K>, O: MergeOperation, C: Compare<K>>(
     let i = at.i + at.next.is_le() as usize;
     let j = at.j + at.next.is_ge() as usize;
     let takes = is_taken(op, at.next, at.j % 2 == 1, i % 2 == 1);
-    out[at.k] = one_of(takes | !keeps, &first, &out[at.k], by);
-    let k = at.k + takes as usize;
+    let k = put(out, at.k, takes, &first, by, keeps);
     let next = cmp.compare(&firsts.left, &firsts.right);
     ReadSoFar { i, j, k, next }
 }
@@ -177,7 +173,7 @@ fn sixteen_steps<K, P: Copier<K>, O: MergeOperation, C: Compare<K>>(
     // The lengths of these are known, so each index is seen to be within them.
     let left = &a[..18];
     let right = &b[..18];
-    let room = &mut out[at.k..at.k + 16];
+    let room = &mut out[at.k..at.k + 17];
     let from = Looked {
         at: ReadSoFar {
             i: at.i % 2,
@@ -203,10 +199,10 @@ fn sixteen_steps<K, P: Copier<K>, O: MergeOperation, C: Compare<K>>(
 }
 
 // Whether there are unread items and room enough for sixteen steps from an even place on, or the one
-// after it, of which each compares the next items.
+// after it, of which each compares the next items, and may read what stands behind its own.
 #[inline(always)]
 fn has_sixteen(lefts: usize, rights: usize, room: usize) -> bool {
-    lefts >= 18 && rights >= 18 && room >= 16
+    lefts >= 18 && rights >= 18 && room >= 17
 }
 
 /// Reads items of both slices, one or both at a step, until a run is long, a slice is nearly used up

@@ -2,13 +2,13 @@
 //! Short runs of two slices of which only a number is wanted, read without a branch on what is
 //! compared.
 //!
-//! Nothing is copied: a step compares two items where they lie. So items may be of any type, and
-//! as in a read item by item a place's parity says how a side stands, and that of the number how
-//! the answer does.
+//! Nothing is copied: a step compares two items where they lie, so items may be of any type. As in
+//! a read item by item both slices begin at even places of the whole lists, and so does each window
+//! on them.
 
 use crate::generated::range_merge::compare::{Compare, Done, Work};
 use crate::generated::range_merge::fast::rounds::{are_few, Rounds};
-use crate::generated::range_merge::fast::short_runs::copied::{is_long, is_on, Relative};
+use crate::generated::range_merge::fast::short_runs::copied::{is_long, takes_left, Looked};
 use crate::generated::range_merge::fast::short_runs::{ReadSoFar, ShortRuns};
 use crate::generated::range_merge::merge_state::over_slices::SliceMergeState;
 use crate::generated::range_merge::merge_state::MergeState;
@@ -16,7 +16,7 @@ use crate::generated::range_merge::operations::MergeOperation;
 use crate::generated::range_merge::searching::is_word;
 use core::cmp::Ordering;
 
-/// Reads short runs by place, where items are read fast.
+/// Counts short runs, where items are read fast.
 pub(crate) struct CountingReader {
     rounds: Rounds,
     // Whether there are many items, each a word at most: else it mostly points to what is compared,
@@ -61,43 +61,50 @@ impl<'a, K, O: MergeOperation, C: Compare<K>> ShortRuns<SliceMergeState<'a, K, u
         if self.rounds.were_long(state.a_len()) {
             return next;
         }
-        let at = count_short_runs(state, op, next, cmp);
+        // There is an item before the first unread one where an odd number was read.
+        let a = match state.a.from_even(state.ac) {
+            Some(a) => a,
+            _ => return next,
+        };
+        let b = match state.b.from_even(state.bc) {
+            Some(b) => b,
+            _ => return next,
+        };
+        let at = count_short_runs(state, a, b, op, next, cmp);
         self.rounds.learn(at);
         at.next
     }
 }
 
-// Counts short runs of a state, and returns how far it came.
+// Counts short runs of a state, whose unread items are given from the last even places on, and
+// returns how many items were read.
 #[inline(always)]
 fn count_short_runs<K, O: MergeOperation, C: Compare<K>>(
     state: &mut SliceMergeState<'_, K, usize>,
+    a: &[K],
+    b: &[K],
     op: &O,
     next: Ordering,
     cmp: &mut C,
 ) -> ReadSoFar {
-    let op = &Relative {
-        op,
-        ac: state.ac,
-        bc: state.bc,
-    };
-    let a = state.a.as_slice();
-    let b = state.b.as_slice();
+    let from = ReadSoFar::unread(state.ac, state.bc, next);
     // By value, so that the merge can keep its own counter in registers.
-    let at = cmp.apart(&mut Counting { a, b, next, op });
-    state.a.drop_front(at.i);
-    state.b.drop_front(at.j);
-    state.ac = state.ac != (at.i % 2 == 1);
-    state.bc = state.bc != (at.j % 2 == 1);
+    let at = cmp.apart(&mut Counting { a, b, from, op });
+    let read = at.since(from);
+    state.a.drop_front(read.i);
+    state.b.drop_front(read.j);
+    state.ac = at.i % 2 == 1;
+    state.bc = at.j % 2 == 1;
     state.output += at.k;
-    at
+    read
 }
 
 // What is to be counted.
 struct Counting<'r, K, O: MergeOperation> {
     a: &'r [K],
     b: &'r [K],
-    next: Ordering,
-    op: &'r Relative<'r, O>,
+    from: ReadSoFar,
+    op: &'r O,
 }
 
 impl<'r, K, O: MergeOperation, C: Compare<K>> Work<K, C> for Counting<'r, K, O> {
@@ -105,12 +112,12 @@ impl<'r, K, O: MergeOperation, C: Compare<K>> Work<K, C> for Counting<'r, K, O> 
 
     #[inline(always)]
     fn run(&mut self, cmp: C) -> Done<C, ReadSoFar> {
-        read_apart(self.a, self.b, self.next, self.op, cmp)
+        read_apart(self.a, self.b, self.from, self.op, cmp)
     }
 
     #[inline(always)]
     fn undone(&self) -> ReadSoFar {
-        ReadSoFar::start(self.next)
+        self.from
     }
 }
 
@@ -119,13 +126,19 @@ impl<'r, K, O: MergeOperation, C: Compare<K>> Work<K, C> for Counting<'r, K, O> 
 fn read_apart<K, O: MergeOperation, C: Compare<K>>(
     a: &[K],
     b: &[K],
-    next: Ordering,
-    op: &Relative<'_, O>,
+    from: ReadSoFar,
+    op: &O,
     cmp: C,
 ) -> Done<C, ReadSoFar> {
     let mut cmp = cmp;
-    let answer = count_runs(a, b, next, op, &mut cmp);
+    let answer = count_runs(a, b, from, op, &mut cmp);
     Done { cmp, answer }
+}
+
+// Whether the result differs from the one where both sides are off.
+#[inline(always)]
+fn is_on<O: MergeOperation>(op: &O, ac: bool, bc: bool) -> bool {
+    (ac & takes_left(op, bc)) != (bc & op.takes_b(false))
 }
 
 // Reads the first item, or one of each list where they are equal, and compares the next two.
@@ -140,7 +153,8 @@ fn step<K, O: MergeOperation, C: Compare<K>>(
     let i = at.i + at.next.is_le() as usize;
     let j = at.j + at.next.is_ge() as usize;
     let on = is_on(op, i % 2 == 1, j % 2 == 1);
-    let k = at.k + (on != (at.k % 2 == 1)) as usize;
+    let takes = on != is_on(op, at.i % 2 == 1, at.j % 2 == 1);
+    let k = at.k + takes as usize;
     let next = cmp.compare(&a[i], &b[j]);
     ReadSoFar { i, j, k, next }
 }
@@ -160,69 +174,82 @@ fn four_steps<K, O: MergeOperation, C: Compare<K>>(
     step(a, b, three, op, cmp)
 }
 
-// Whether each list has unread items enough for eight steps, of which each compares the next ones.
+// Four steps more and a look, unless a run was long at the last one.
 #[inline(always)]
-fn has_nine(lefts: usize, rights: usize) -> bool {
-    lefts >= 9 && rights >= 9
-}
-
-// A place of the whole lists, from one in windows that begin at `start`.
-#[inline(always)]
-fn beyond(start: ReadSoFar, at: ReadSoFar) -> ReadSoFar {
-    ReadSoFar {
-        i: start.i + at.i,
-        j: start.j + at.j,
-        k: start.k + at.k,
-        next: at.next,
+fn four_more<K, O: MergeOperation, C: Compare<K>>(
+    a: &[K],
+    b: &[K],
+    from: Looked,
+    op: &O,
+    cmp: &mut C,
+) -> Looked {
+    if from.is_long {
+        return from;
     }
+    let at = four_steps(a, b, from.at, op, cmp);
+    // Two literals, so that no truth is kept where the read goes on.
+    if is_long(from.at, at) {
+        return Looked { at, is_long: true };
+    }
+    Looked { at, is_long: false }
 }
 
-/// Reads items of both slices, one or both at a step, from their starts on, until a run is long or
-/// a slice is nearly used up. It counts what is taken, and returns how far it came.
+// Up to sixteen steps from an even place of both slices, or the one after it, with a look after each
+// four. A run that is long at a look ends them.
+#[inline(always)]
+fn sixteen_steps<K, O: MergeOperation, C: Compare<K>>(
+    a: &[K],
+    b: &[K],
+    at: ReadSoFar,
+    op: &O,
+    cmp: &mut C,
+) -> Looked {
+    // The lengths of these are known, so each index is seen to be within them.
+    let left = &a[..18];
+    let right = &b[..18];
+    let from = Looked {
+        at: at.from_even(at.k),
+        is_long: false,
+    };
+    let four = four_more(left, right, from, op, cmp);
+    let eight = four_more(left, right, four, op, cmp);
+    let twelve = four_more(left, right, eight, op, cmp);
+    four_more(left, right, twelve, op, cmp)
+}
+
+// Whether there are unread items enough for sixteen steps from an even place on, or the one after
+// it, of which each compares the next items.
+#[inline(always)]
+fn has_eighteen(lefts: usize, rights: usize) -> bool {
+    lefts >= 18 && rights >= 18
+}
+
+/// Reads items of both slices, one or both at a step, until a run is long or a slice is nearly used
+/// up. Both slices begin at even places, and the read at `from`. It counts what is taken, and
+/// returns how far it came.
 ///
 /// It looks at the length of a run after each four steps, as a read item by item does.
 #[inline(always)]
 pub(crate) fn count_runs<K, O: MergeOperation, C: Compare<K>>(
     a: &[K],
     b: &[K],
-    next: Ordering,
+    from: ReadSoFar,
     op: &O,
     cmp: &mut C,
 ) -> ReadSoFar {
-    let mut here = ReadSoFar {
-        i: 0,
-        j: 0,
-        k: 0,
-        next,
-    };
-    let mut lefts = a;
-    let mut rights = b;
-    while has_nine(lefts.len(), rights.len()) {
-        // The lengths of these are known, so each index is seen to be within them.
-        let left = &lefts[..9];
-        let right = &rights[..9];
-        let op = &Relative {
-            op,
-            ac: here.i % 2 == 1,
-            bc: here.j % 2 == 1,
-        };
-        let from = ReadSoFar {
-            i: 0,
-            j: 0,
-            k: 0,
-            next: here.next,
-        };
-        let four = four_steps(left, right, from, op, cmp);
-        if is_long(from, four) {
-            return beyond(here, four);
+    let mut lefts = &a[from.i - from.i % 2..];
+    let mut rights = &b[from.j - from.j % 2..];
+    let mut at = from.from_even(0);
+    while has_eighteen(lefts.len(), rights.len()) {
+        let read = sixteen_steps(lefts, rights, at, op, cmp);
+        if read.is_long {
+            return read
+                .at
+                .behind(a.len() - lefts.len(), b.len() - rights.len());
         }
-        let eight = four_steps(left, right, four, op, cmp);
-        lefts = &lefts[eight.i..];
-        rights = &rights[eight.j..];
-        here = beyond(here, eight);
-        if is_long(four, eight) {
-            return here;
-        }
+        lefts = &lefts[read.at.i - read.at.i % 2..];
+        rights = &rights[read.at.j - read.at.j % 2..];
+        at = read.at.from_even(read.at.k);
     }
-    here
+    at.behind(a.len() - lefts.len(), b.len() - rights.len())
 }

@@ -93,7 +93,7 @@ impl<'p, K, P: Copier<K>> CopyingReader<'p, K, P> {
     #[inline(always)]
     fn learn(&mut self, at: ReadSoFar) {
         self.rounds.learn(at);
-        self.room = if self.room - at.k.min(self.room) < 16 {
+        self.room = if self.room - at.k.min(self.room) < 17 {
             self.room.saturating_mul(2)
         } else {
             ROOM
@@ -170,12 +170,7 @@ fn read_short_runs<
         n,
         by: PhantomData,
     });
-    let read = ReadSoFar {
-        i: at.i - from.i,
-        j: at.j - from.j,
-        k: at.k,
-        next: at.next,
-    };
+    let read = at.since(from);
     state.a.drop_front(read.i);
     state.b.drop_front(read.j);
     state.ac = at.i % 2 == 1;
