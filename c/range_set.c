@@ -143,15 +143,15 @@ enum { TEXT_OF_RANGES = 0, TEXT_MALFORMED = 1, TEXT_OUT_OF_RANGE = 2, TEXT_NOT_U
 /* The boundaries of a range with an end. */
 enum { PER_RANGE = 2 };
 
-/* A part of a text between two separators, from index `from` to below `to`. It is read as the `len` bytes at `text`, for which check_text
+/* A piece of a text between two separators, from index `from` to below `to`. It is read as the `len` bytes at `text`, for which check_text
  * returned `status` and wrote `told`. A number alone is read as the range from it on, which is in `from_on`, and `told` is PER_RANGE. */
-typedef struct part {
+typedef struct piece {
     size_t from, to, len, told;
     const char *text;
     uint32_t status;
     bool is_alone;
     char from_on[32];
-} part;
+} piece;
 
 /* How many bytes before a range are blanks. */
 static size_t blanks_before(const char *text, size_t len)
@@ -166,9 +166,9 @@ static bool is_digit(char it)
     return it >= '0' && it <= '9';
 }
 
-/* Has a part that is a number alone read as the range from that number on. The number ends where the part stops being a text of ranges.
+/* Has a piece that is a number alone read as the range from that number on. The number ends where the piece stops being a text of ranges.
  * A number of more than DIGITS digits after the zeros fits no type, so the other digits are left out. */
-static void take_alone(part *it)
+static void take_alone(piece *it)
 {
     enum { DIGITS = 24 };
     const char *number = it->text + blanks_before(it->text, it->told), *end = it->text + it->told;

@@ -1,4 +1,5 @@
-/* Sets that change in a buffer, and owned sets, whose buffer grows. Included by range_set_calls.h. */
+/* Sets that change in a buffer, and owned sets, whose buffer grows. A change is done whole, or nothing has changed: if the buffer is too
+ * short, `needed` says how much room it takes. Included by range_set_calls.h. */
 
 /* ---- Sets in a buffer ---- */
 

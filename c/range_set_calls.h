@@ -20,7 +20,7 @@ static NUMBER NAME(nothing);
 /* Where an export writes a range. */
 #define PARTS(range) &(range)->start, &(range)->end, &(range)->has_end
 
-/* A handle without a set in chunks has the answers of the empty list. */
+/* A handle without a set in chunks is asked as the empty list. */
 static const SET NAME(no_member) = {NULL, 0};
 
 #include "range_set_lists.h"

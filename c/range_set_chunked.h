@@ -1,4 +1,4 @@
-/* Sets in chunks, over malloc. Included by range_set_calls.h. */
+/* Sets in chunks, over malloc. If memory runs out, the set is as it was. Included by range_set_calls.h. */
 
 range_set_status NAME(chunked_new)(CHUNKED *set)
 {

@@ -1,4 +1,5 @@
-/* Sets of the caller's lists, and where a question of one writes its answer. Included by range_set_calls.h. */
+/* Sets of the caller's lists, and where a question of one writes its result: nowhere if it has none, or the place is null. Included by
+ * range_set_calls.h. */
 
 static inline SET NAME(set_of)(const NUMBER *boundaries, size_t len)
 {

@@ -1,4 +1,5 @@
-/* Operations that write a set into a buffer. Included by range_set_calls.h. */
+/* Operations that write a set into a buffer. Of a buffer that is too short the result is null, with the length that it needs. Included by
+ * range_set_calls.h. */
 
 /* Whether the buffer has no byte in common with the set's list or the result, and the result has none with that list. */
 static inline bool NAME(is_apart)(SET set, const NUMBER *out, size_t room, const SET *result)

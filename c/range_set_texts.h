@@ -1,4 +1,4 @@
-/* Sets as texts, and from texts. Included by range_set_calls.h. */
+/* Sets as texts, and from texts. A text is checked whole before a set is written. Included by range_set_calls.h. */
 
 /* Whether a text has no byte in common with the set's list or the result, nor the result with that list. No text is so long that its
  * length doesn't fit: each boundary takes fewer than 32 bytes. */
@@ -29,9 +29,9 @@ static inline bool NAME(are_apart)(
            && !overlap(fault, fault_size, result, sizeof *result);
 }
 
-/* Reads the part that begins at it->from and ends before the separator or a comma. If it stops being a text of ranges after a digit it is a
- * number alone where nothing but blanks follows, or else stops after those. A part that was checked before and has a dot is a range. */
-static void NAME(take_part)(const char *text, size_t text_len, char separator, bool is_checked, part *it)
+/* Reads the piece that begins at it->from and ends before the separator or a comma. If it stops being a text of ranges after a digit it is
+ * a number alone where nothing but blanks follows, or else stops after those. A piece that was checked before and has a dot is a range. */
+static void NAME(take_piece)(const char *text, size_t text_len, char separator, bool is_checked, piece *it)
 {
     size_t rest, more = 0;
     uint32_t behind;
@@ -52,14 +52,14 @@ static void NAME(take_part)(const char *text, size_t text_len, char separator, b
     it->told = PER_RANGE;
 }
 
-/* Whether each part of a text is a range, a number alone or blank. Counts the room that their ranges need. */
-static range_set_status NAME(check_parts)(const char *text, size_t text_len, char separator, size_t *needed, size_t *fault)
+/* Whether each piece of a text is a range, a number alone or blank. Counts the room that their ranges need. */
+static range_set_status NAME(check_pieces)(const char *text, size_t text_len, char separator, size_t *needed, size_t *fault)
 {
     range_set_status status = RANGE_SET_DONE;
     size_t misfit = 0;
-    part it = {0};
+    piece it = {0};
     for (; it.from <= text_len; it.from = it.to + 1) {
-        NAME(take_part)(text, text_len, separator, false, &it);
+        NAME(take_piece)(text, text_len, separator, false, &it);
         switch (it.status) {
         case TEXT_OF_RANGES: *needed += it.told; break;
         case TEXT_OUT_OF_RANGE:
@@ -86,7 +86,7 @@ range_set_status NAME(parse)(const char *text, size_t text_len, NUMBER *out, siz
         if (told > room) return NAME(write_result)(told, out, room, result);
         count = EXPORT(parse)(text, text_len, ROOM(out, told / PER_RANGE), &is_open, &open);
         return NAME(write_open_result)(count, is_open, open, out, room, result);
-    case TEXT_OUT_OF_RANGE: return NAME(check_parts)(text, text_len, ',', &told, fault);
+    case TEXT_OUT_OF_RANGE: return NAME(check_pieces)(text, text_len, ',', &told, fault);
     default: return refused_at(RANGE_SET_MALFORMED, told, fault);
     }
 }
@@ -98,18 +98,18 @@ range_set_status NAME(parse_by)(const char *text, size_t text_len, char separato
     bool is_open = false, opens = false;
     NUMBER open = 0, start = 0, range[PER_RANGE] = {0, 0};
     range_set_status status;
-    part it = {0};
+    piece it = {0};
     if ((unsigned char)separator > 127 || is_digit(separator) || separator == '+' || separator == '-' || separator == '.'
         || !NAME(are_apart)(text, text_len, out, room, result, fault))
         return RANGE_SET_BAD_ARGUMENT;
     if (text == NULL) text = &no_text;
-    status = NAME(check_parts)(text, text_len, separator, &needed, fault);
+    status = NAME(check_pieces)(text, text_len, separator, &needed, fault);
     if (status == RANGE_SET_MALFORMED && EXPORT(check_text)(text, text_len, &needed) == TEXT_NOT_UTF8)
         return refused_at(status, needed, fault);
     if (status != RANGE_SET_DONE) return status;
     if (needed > room) return NAME(write_result)(needed, out, room, result);
     for (; it.from <= text_len; it.from = it.to + 1) {
-        NAME(take_part)(text, text_len, separator, true, &it);
+        NAME(take_piece)(text, text_len, separator, true, &it);
         count = EXPORT(parse)(it.text, it.len, range, 1, &opens, &start);
         if (it.is_alone && start != MOST) range[0] = start, range[1] = start + 1, count = 1, opens = false;
         if (count > 0) memcpy(out + len, range, sizeof range);

@@ -15,7 +15,7 @@
  * may be given to a call. {NULL, 0} is the empty set. An array that a set stands for has to stay as it is while the set
  * is used.
  *
- * What can't fail answers its value. What can fail answers a status, which is 0 where the call was done:
+ * What can't fail returns its value. What can fail returns a status, which is 0 if the call was done:
  *
  *   RANGE_SET_DONE           the call was done.
  *   RANGE_SET_NOT_SORTED     the array isn't strictly sorted. Nothing was written.
@@ -113,8 +113,8 @@ const char *range_set_status_text(range_set_status status);
 #define RANGE_SET_DIFFERENCE RANGE_SET_LEFT
 #define RANGE_SET_SYMMETRIC_DIFFERENCE (RANGE_SET_LEFT | RANGE_SET_RIGHT)
 
-/* Where memory comes from. `allocate` answers `size` bytes, for any number, or null; `resize` moves memory with
- * `old_size` bytes to `size` bytes, or answers null and leaves it; `release` takes it back. `context` is handed to
+/* Where memory comes from. `allocate` returns `size` bytes, for any number, or null; `resize` moves memory with
+ * `old_size` bytes to `size` bytes, or returns null and leaves it; `release` takes it back. `context` is handed to
  * each. */
 typedef struct range_set_allocator {
     void *(*allocate)(void *context, size_t size);
@@ -125,15 +125,15 @@ typedef struct range_set_allocator {
 
 /* Has the memory of all sets in chunks and maps come from `allocator`, of which it keeps a copy, or from malloc again
  * where that is null. Call it while there is none of them, and no other thread makes a call. `allocate` and `resize`
- * have to answer memory that is aligned for any type, as malloc does, on most machines to 16 bytes. They are asked for
- * 16 bytes more than a set or map uses, by each thread that changes one. Where they answer null the call answers
+ * have to return memory that is aligned for any type, as malloc does, on most machines to 16 bytes. They are asked for
+ * 16 bytes more than a set or map uses, by each thread that changes one. If they return null, the call returns
  * RANGE_SET_NO_MEMORY, and nothing has changed. An owned set has an allocator of its own. */
 void range_set_use_allocator(const range_set_allocator *allocator);
 
 /* ---- Sets of int32_t ---- */
 
 /* A set. Its fields may be read, and are for the library alone to write: a set that was made otherwise, and isn't
- * strictly sorted, gets answers that mean nothing. Where `boundaries` is null the set is empty. */
+ * strictly sorted, gets results that mean nothing. Where `boundaries` is null the set is empty. */
 typedef struct range_set_i32 {
     const int32_t *boundaries;
     size_t len;
@@ -146,14 +146,14 @@ typedef struct range_set_i32_range {
 } range_set_i32_range;
 
 /* A set in a buffer of the caller's, which can change. `items` has room for `room` numbers, and `set` stands at their
- * front. Where a call answers RANGE_SET_NO_ROOM, `needed` is the room that it needs. The fields may be read. */
+ * front. If a call returns RANGE_SET_NO_ROOM, `needed` is the room that it needs. The fields may be read. */
 typedef struct range_set_i32_buffer {
     int32_t *items;
     size_t room, needed;
     range_set_i32 set;
 } range_set_i32_buffer;
 
-/* Makes a set of a list that is strictly sorted, or answers RANGE_SET_NOT_SORTED. Goes over the list once. */
+/* Makes a set of a list that is strictly sorted, or returns RANGE_SET_NOT_SORTED. Goes over the list once. */
 RANGE_SET_STATUS range_set_i32_view(const int32_t *list, size_t len, range_set_i32 *set);
 
 /* Makes the set whose boundaries are these numbers, in any order, in place: the distinct ones in order stand at the
@@ -214,7 +214,7 @@ bool range_set_i32_prev_member(range_set_i32 set, int32_t from, int32_t *previou
 bool range_set_i32_prev_gap(range_set_i32 set, int32_t from, int32_t *previous);
 
 /* Whether the set has more than `k` members, and then the one with `k` others below it. Else `at` is as it was. It may
- * be null. Looks at each boundary up to the answer once. */
+ * be null. Looks at each boundary up to the result once. */
 bool range_set_i32_select(range_set_i32 set, uint64_t k, int32_t *at);
 
 /* How many members are below `at`. Looks at each boundary below `at` once. */
@@ -408,7 +408,7 @@ RANGE_SET_STATUS range_set_i32_print(range_set_i32 set, char *text, size_t room,
  * or one of blanks, is the empty set. The text is `text_len` bytes of UTF-8, or null with length 0.
  *
  * The buffer has to have room for as many numbers as the text has, also where the set has fewer. Nothing is said of
- * what stands after the set in the buffer. `fault` may be null. Where the answer is RANGE_SET_MALFORMED it is the byte
+ * what stands after the set in the buffer. `fault` may be null. If it returns RANGE_SET_MALFORMED it is the byte
  * at which the text stops being one of ranges, and its length where more was expected; of bytes that aren't UTF-8 it is
  * the first that isn't, whatever stands before. Where it is RANGE_SET_OUT_OF_RANGE it is the byte at which the first
  * range with such a number begins. Else it is as it was.
@@ -500,7 +500,7 @@ typedef struct range_set_i32_owned {
 
 /* Makes an owned set without a member, which takes no memory yet. Its memory comes from `allocator`, of which it keeps
  * a copy, or from malloc where that is null. It has to be freed. Does nothing where `owned` is null, of which each call
- * below that answers a status says RANGE_SET_BAD_ARGUMENT. */
+ * below that returns a status says RANGE_SET_BAD_ARGUMENT. */
 void range_set_i32_owned_init(range_set_i32_owned *owned, const range_set_allocator *allocator);
 
 /* Gives the memory back, and leaves a set without a member, which may be used again. Does nothing where `owned` is
@@ -586,7 +586,7 @@ bool range_set_i32_chunked_last(range_set_i32_chunked set, range_set_i32_range *
 bool range_set_i32_chunked_prev_member(range_set_i32_chunked set, int32_t from, int32_t *previous);
 bool range_set_i32_chunked_prev_gap(range_set_i32_chunked set, int32_t from, int32_t *previous);
 
-/* The same, and each looks at the boundaries one by one: those below `at`, or up to the answer, or all. */
+/* The same, and each looks at the boundaries one by one: those below `at`, or up to the result, or all. */
 uint64_t range_set_i32_chunked_rank(range_set_i32_chunked set, int32_t at);
 bool range_set_i32_chunked_select(range_set_i32_chunked set, uint64_t k, int32_t *at);
 bool range_set_i32_chunked_covered(range_set_i32_chunked set, uint64_t *count);
@@ -615,7 +615,7 @@ bool range_set_i32_chunked_first_run(range_set_i32_chunked set, int32_t start, i
                                      int32_t *first);
 
 /* Writes the ranges that share a number with `start` to below `end`, whole, as a list. Where there are more than the
- * buffer has room for it writes the first room / 2, and answers RANGE_SET_MORE; where it has room for none,
+ * buffer has room for it writes the first room / 2, and returns RANGE_SET_MORE; where it has room for none,
  * RANGE_SET_NO_ROOM, and goes over all of them for the length. */
 RANGE_SET_STATUS range_set_i32_chunked_overlapping(range_set_i32_chunked set, int32_t start, int32_t end,
                                                    int32_t *out, size_t room, range_set_i32 *result);
@@ -706,7 +706,7 @@ range_map_i32_stretch range_map_i32_range_at(range_map_i32 map, int32_t key);
  */
 bool range_map_i32_next(range_map_i32 map, int32_t from, range_map_i32_stretch *stretch);
 
-/* Writes the first of those ranges, as many as there is room for, and answers how many these are: by one search. */
+/* Writes the first of those ranges, as many as there is room for, and returns how many these are: by one search. */
 size_t range_map_i32_next_ranges(range_map_i32 map, int32_t from, range_map_i32_stretch *out, size_t room);
 
 /* Makes a map of `count` ranges, a start and an end each, with their values; where they overlap the later one's holds.
@@ -720,7 +720,7 @@ size_t range_map_i32_len(range_map_i32 map);
 /* ---- Sets of uint32_t ---- */
 
 /* A set. Its fields may be read, and are for the library alone to write: a set that was made otherwise, and isn't
- * strictly sorted, gets answers that mean nothing. Where `boundaries` is null the set is empty. */
+ * strictly sorted, gets results that mean nothing. Where `boundaries` is null the set is empty. */
 typedef struct range_set_u32 {
     const uint32_t *boundaries;
     size_t len;
@@ -733,14 +733,14 @@ typedef struct range_set_u32_range {
 } range_set_u32_range;
 
 /* A set in a buffer of the caller's, which can change. `items` has room for `room` numbers, and `set` stands at their
- * front. Where a call answers RANGE_SET_NO_ROOM, `needed` is the room that it needs. The fields may be read. */
+ * front. If a call returns RANGE_SET_NO_ROOM, `needed` is the room that it needs. The fields may be read. */
 typedef struct range_set_u32_buffer {
     uint32_t *items;
     size_t room, needed;
     range_set_u32 set;
 } range_set_u32_buffer;
 
-/* Makes a set of a list that is strictly sorted, or answers RANGE_SET_NOT_SORTED. Goes over the list once. */
+/* Makes a set of a list that is strictly sorted, or returns RANGE_SET_NOT_SORTED. Goes over the list once. */
 RANGE_SET_STATUS range_set_u32_view(const uint32_t *list, size_t len, range_set_u32 *set);
 
 /* Makes the set whose boundaries are these numbers, in any order, in place: the distinct ones in order stand at the
@@ -801,7 +801,7 @@ bool range_set_u32_prev_member(range_set_u32 set, uint32_t from, uint32_t *previ
 bool range_set_u32_prev_gap(range_set_u32 set, uint32_t from, uint32_t *previous);
 
 /* Whether the set has more than `k` members, and then the one with `k` others below it. Else `at` is as it was. It may
- * be null. Looks at each boundary up to the answer once. */
+ * be null. Looks at each boundary up to the result once. */
 bool range_set_u32_select(range_set_u32 set, uint64_t k, uint32_t *at);
 
 /* How many members are below `at`. Looks at each boundary below `at` once. */
@@ -995,7 +995,7 @@ RANGE_SET_STATUS range_set_u32_print(range_set_u32 set, char *text, size_t room,
  * or one of blanks, is the empty set. The text is `text_len` bytes of UTF-8, or null with length 0.
  *
  * The buffer has to have room for as many numbers as the text has, also where the set has fewer. Nothing is said of
- * what stands after the set in the buffer. `fault` may be null. Where the answer is RANGE_SET_MALFORMED it is the byte
+ * what stands after the set in the buffer. `fault` may be null. If it returns RANGE_SET_MALFORMED it is the byte
  * at which the text stops being one of ranges, and its length where more was expected; of bytes that aren't UTF-8 it is
  * the first that isn't, whatever stands before. Where it is RANGE_SET_OUT_OF_RANGE it is the byte at which the first
  * range with such a number begins. Else it is as it was.
@@ -1087,7 +1087,7 @@ typedef struct range_set_u32_owned {
 
 /* Makes an owned set without a member, which takes no memory yet. Its memory comes from `allocator`, of which it keeps
  * a copy, or from malloc where that is null. It has to be freed. Does nothing where `owned` is null, of which each call
- * below that answers a status says RANGE_SET_BAD_ARGUMENT. */
+ * below that returns a status says RANGE_SET_BAD_ARGUMENT. */
 void range_set_u32_owned_init(range_set_u32_owned *owned, const range_set_allocator *allocator);
 
 /* Gives the memory back, and leaves a set without a member, which may be used again. Does nothing where `owned` is
@@ -1173,7 +1173,7 @@ bool range_set_u32_chunked_last(range_set_u32_chunked set, range_set_u32_range *
 bool range_set_u32_chunked_prev_member(range_set_u32_chunked set, uint32_t from, uint32_t *previous);
 bool range_set_u32_chunked_prev_gap(range_set_u32_chunked set, uint32_t from, uint32_t *previous);
 
-/* The same, and each looks at the boundaries one by one: those below `at`, or up to the answer, or all. */
+/* The same, and each looks at the boundaries one by one: those below `at`, or up to the result, or all. */
 uint64_t range_set_u32_chunked_rank(range_set_u32_chunked set, uint32_t at);
 bool range_set_u32_chunked_select(range_set_u32_chunked set, uint64_t k, uint32_t *at);
 bool range_set_u32_chunked_covered(range_set_u32_chunked set, uint64_t *count);
@@ -1202,7 +1202,7 @@ bool range_set_u32_chunked_first_run(range_set_u32_chunked set, uint32_t start, 
                                      uint32_t *first);
 
 /* Writes the ranges that share a number with `start` to below `end`, whole, as a list. Where there are more than the
- * buffer has room for it writes the first room / 2, and answers RANGE_SET_MORE; where it has room for none,
+ * buffer has room for it writes the first room / 2, and returns RANGE_SET_MORE; where it has room for none,
  * RANGE_SET_NO_ROOM, and goes over all of them for the length. */
 RANGE_SET_STATUS range_set_u32_chunked_overlapping(range_set_u32_chunked set, uint32_t start, uint32_t end,
                                                    uint32_t *out, size_t room, range_set_u32 *result);
@@ -1293,7 +1293,7 @@ range_map_u32_stretch range_map_u32_range_at(range_map_u32 map, uint32_t key);
  */
 bool range_map_u32_next(range_map_u32 map, uint32_t from, range_map_u32_stretch *stretch);
 
-/* Writes the first of those ranges, as many as there is room for, and answers how many these are: by one search. */
+/* Writes the first of those ranges, as many as there is room for, and returns how many these are: by one search. */
 size_t range_map_u32_next_ranges(range_map_u32 map, uint32_t from, range_map_u32_stretch *out, size_t room);
 
 /* Makes a map of `count` ranges, a start and an end each, with their values; where they overlap the later one's holds.
@@ -1307,7 +1307,7 @@ size_t range_map_u32_len(range_map_u32 map);
 /* ---- Sets of int64_t ---- */
 
 /* A set. Its fields may be read, and are for the library alone to write: a set that was made otherwise, and isn't
- * strictly sorted, gets answers that mean nothing. Where `boundaries` is null the set is empty. */
+ * strictly sorted, gets results that mean nothing. Where `boundaries` is null the set is empty. */
 typedef struct range_set_i64 {
     const int64_t *boundaries;
     size_t len;
@@ -1320,14 +1320,14 @@ typedef struct range_set_i64_range {
 } range_set_i64_range;
 
 /* A set in a buffer of the caller's, which can change. `items` has room for `room` numbers, and `set` stands at their
- * front. Where a call answers RANGE_SET_NO_ROOM, `needed` is the room that it needs. The fields may be read. */
+ * front. If a call returns RANGE_SET_NO_ROOM, `needed` is the room that it needs. The fields may be read. */
 typedef struct range_set_i64_buffer {
     int64_t *items;
     size_t room, needed;
     range_set_i64 set;
 } range_set_i64_buffer;
 
-/* Makes a set of a list that is strictly sorted, or answers RANGE_SET_NOT_SORTED. Goes over the list once. */
+/* Makes a set of a list that is strictly sorted, or returns RANGE_SET_NOT_SORTED. Goes over the list once. */
 RANGE_SET_STATUS range_set_i64_view(const int64_t *list, size_t len, range_set_i64 *set);
 
 /* Makes the set whose boundaries are these numbers, in any order, in place: the distinct ones in order stand at the
@@ -1388,7 +1388,7 @@ bool range_set_i64_prev_member(range_set_i64 set, int64_t from, int64_t *previou
 bool range_set_i64_prev_gap(range_set_i64 set, int64_t from, int64_t *previous);
 
 /* Whether the set has more than `k` members, and then the one with `k` others below it. Else `at` is as it was. It may
- * be null. Looks at each boundary up to the answer once. */
+ * be null. Looks at each boundary up to the result once. */
 bool range_set_i64_select(range_set_i64 set, uint64_t k, int64_t *at);
 
 /* How many members are below `at`. Looks at each boundary below `at` once. */
@@ -1582,7 +1582,7 @@ RANGE_SET_STATUS range_set_i64_print(range_set_i64 set, char *text, size_t room,
  * or one of blanks, is the empty set. The text is `text_len` bytes of UTF-8, or null with length 0.
  *
  * The buffer has to have room for as many numbers as the text has, also where the set has fewer. Nothing is said of
- * what stands after the set in the buffer. `fault` may be null. Where the answer is RANGE_SET_MALFORMED it is the byte
+ * what stands after the set in the buffer. `fault` may be null. If it returns RANGE_SET_MALFORMED it is the byte
  * at which the text stops being one of ranges, and its length where more was expected; of bytes that aren't UTF-8 it is
  * the first that isn't, whatever stands before. Where it is RANGE_SET_OUT_OF_RANGE it is the byte at which the first
  * range with such a number begins. Else it is as it was.
@@ -1674,7 +1674,7 @@ typedef struct range_set_i64_owned {
 
 /* Makes an owned set without a member, which takes no memory yet. Its memory comes from `allocator`, of which it keeps
  * a copy, or from malloc where that is null. It has to be freed. Does nothing where `owned` is null, of which each call
- * below that answers a status says RANGE_SET_BAD_ARGUMENT. */
+ * below that returns a status says RANGE_SET_BAD_ARGUMENT. */
 void range_set_i64_owned_init(range_set_i64_owned *owned, const range_set_allocator *allocator);
 
 /* Gives the memory back, and leaves a set without a member, which may be used again. Does nothing where `owned` is
@@ -1760,7 +1760,7 @@ bool range_set_i64_chunked_last(range_set_i64_chunked set, range_set_i64_range *
 bool range_set_i64_chunked_prev_member(range_set_i64_chunked set, int64_t from, int64_t *previous);
 bool range_set_i64_chunked_prev_gap(range_set_i64_chunked set, int64_t from, int64_t *previous);
 
-/* The same, and each looks at the boundaries one by one: those below `at`, or up to the answer, or all. */
+/* The same, and each looks at the boundaries one by one: those below `at`, or up to the result, or all. */
 uint64_t range_set_i64_chunked_rank(range_set_i64_chunked set, int64_t at);
 bool range_set_i64_chunked_select(range_set_i64_chunked set, uint64_t k, int64_t *at);
 bool range_set_i64_chunked_covered(range_set_i64_chunked set, uint64_t *count);
@@ -1789,7 +1789,7 @@ bool range_set_i64_chunked_first_run(range_set_i64_chunked set, int64_t start, i
                                      int64_t *first);
 
 /* Writes the ranges that share a number with `start` to below `end`, whole, as a list. Where there are more than the
- * buffer has room for it writes the first room / 2, and answers RANGE_SET_MORE; where it has room for none,
+ * buffer has room for it writes the first room / 2, and returns RANGE_SET_MORE; where it has room for none,
  * RANGE_SET_NO_ROOM, and goes over all of them for the length. */
 RANGE_SET_STATUS range_set_i64_chunked_overlapping(range_set_i64_chunked set, int64_t start, int64_t end,
                                                    int64_t *out, size_t room, range_set_i64 *result);
@@ -1880,7 +1880,7 @@ range_map_i64_stretch range_map_i64_range_at(range_map_i64 map, int64_t key);
  */
 bool range_map_i64_next(range_map_i64 map, int64_t from, range_map_i64_stretch *stretch);
 
-/* Writes the first of those ranges, as many as there is room for, and answers how many these are: by one search. */
+/* Writes the first of those ranges, as many as there is room for, and returns how many these are: by one search. */
 size_t range_map_i64_next_ranges(range_map_i64 map, int64_t from, range_map_i64_stretch *out, size_t room);
 
 /* Makes a map of `count` ranges, a start and an end each, with their values; where they overlap the later one's holds.
@@ -1894,7 +1894,7 @@ size_t range_map_i64_len(range_map_i64 map);
 /* ---- Sets of uint64_t ---- */
 
 /* A set. Its fields may be read, and are for the library alone to write: a set that was made otherwise, and isn't
- * strictly sorted, gets answers that mean nothing. Where `boundaries` is null the set is empty. */
+ * strictly sorted, gets results that mean nothing. Where `boundaries` is null the set is empty. */
 typedef struct range_set_u64 {
     const uint64_t *boundaries;
     size_t len;
@@ -1907,14 +1907,14 @@ typedef struct range_set_u64_range {
 } range_set_u64_range;
 
 /* A set in a buffer of the caller's, which can change. `items` has room for `room` numbers, and `set` stands at their
- * front. Where a call answers RANGE_SET_NO_ROOM, `needed` is the room that it needs. The fields may be read. */
+ * front. If a call returns RANGE_SET_NO_ROOM, `needed` is the room that it needs. The fields may be read. */
 typedef struct range_set_u64_buffer {
     uint64_t *items;
     size_t room, needed;
     range_set_u64 set;
 } range_set_u64_buffer;
 
-/* Makes a set of a list that is strictly sorted, or answers RANGE_SET_NOT_SORTED. Goes over the list once. */
+/* Makes a set of a list that is strictly sorted, or returns RANGE_SET_NOT_SORTED. Goes over the list once. */
 RANGE_SET_STATUS range_set_u64_view(const uint64_t *list, size_t len, range_set_u64 *set);
 
 /* Makes the set whose boundaries are these numbers, in any order, in place: the distinct ones in order stand at the
@@ -1975,7 +1975,7 @@ bool range_set_u64_prev_member(range_set_u64 set, uint64_t from, uint64_t *previ
 bool range_set_u64_prev_gap(range_set_u64 set, uint64_t from, uint64_t *previous);
 
 /* Whether the set has more than `k` members, and then the one with `k` others below it. Else `at` is as it was. It may
- * be null. Looks at each boundary up to the answer once. */
+ * be null. Looks at each boundary up to the result once. */
 bool range_set_u64_select(range_set_u64 set, uint64_t k, uint64_t *at);
 
 /* How many members are below `at`. Looks at each boundary below `at` once. */
@@ -2169,7 +2169,7 @@ RANGE_SET_STATUS range_set_u64_print(range_set_u64 set, char *text, size_t room,
  * or one of blanks, is the empty set. The text is `text_len` bytes of UTF-8, or null with length 0.
  *
  * The buffer has to have room for as many numbers as the text has, also where the set has fewer. Nothing is said of
- * what stands after the set in the buffer. `fault` may be null. Where the answer is RANGE_SET_MALFORMED it is the byte
+ * what stands after the set in the buffer. `fault` may be null. If it returns RANGE_SET_MALFORMED it is the byte
  * at which the text stops being one of ranges, and its length where more was expected; of bytes that aren't UTF-8 it is
  * the first that isn't, whatever stands before. Where it is RANGE_SET_OUT_OF_RANGE it is the byte at which the first
  * range with such a number begins. Else it is as it was.
@@ -2261,7 +2261,7 @@ typedef struct range_set_u64_owned {
 
 /* Makes an owned set without a member, which takes no memory yet. Its memory comes from `allocator`, of which it keeps
  * a copy, or from malloc where that is null. It has to be freed. Does nothing where `owned` is null, of which each call
- * below that answers a status says RANGE_SET_BAD_ARGUMENT. */
+ * below that returns a status says RANGE_SET_BAD_ARGUMENT. */
 void range_set_u64_owned_init(range_set_u64_owned *owned, const range_set_allocator *allocator);
 
 /* Gives the memory back, and leaves a set without a member, which may be used again. Does nothing where `owned` is
@@ -2347,7 +2347,7 @@ bool range_set_u64_chunked_last(range_set_u64_chunked set, range_set_u64_range *
 bool range_set_u64_chunked_prev_member(range_set_u64_chunked set, uint64_t from, uint64_t *previous);
 bool range_set_u64_chunked_prev_gap(range_set_u64_chunked set, uint64_t from, uint64_t *previous);
 
-/* The same, and each looks at the boundaries one by one: those below `at`, or up to the answer, or all. */
+/* The same, and each looks at the boundaries one by one: those below `at`, or up to the result, or all. */
 uint64_t range_set_u64_chunked_rank(range_set_u64_chunked set, uint64_t at);
 bool range_set_u64_chunked_select(range_set_u64_chunked set, uint64_t k, uint64_t *at);
 bool range_set_u64_chunked_covered(range_set_u64_chunked set, uint64_t *count);
@@ -2376,7 +2376,7 @@ bool range_set_u64_chunked_first_run(range_set_u64_chunked set, uint64_t start, 
                                      uint64_t *first);
 
 /* Writes the ranges that share a number with `start` to below `end`, whole, as a list. Where there are more than the
- * buffer has room for it writes the first room / 2, and answers RANGE_SET_MORE; where it has room for none,
+ * buffer has room for it writes the first room / 2, and returns RANGE_SET_MORE; where it has room for none,
  * RANGE_SET_NO_ROOM, and goes over all of them for the length. */
 RANGE_SET_STATUS range_set_u64_chunked_overlapping(range_set_u64_chunked set, uint64_t start, uint64_t end,
                                                    uint64_t *out, size_t room, range_set_u64 *result);
@@ -2467,7 +2467,7 @@ range_map_u64_stretch range_map_u64_range_at(range_map_u64 map, uint64_t key);
  */
 bool range_map_u64_next(range_map_u64 map, uint64_t from, range_map_u64_stretch *stretch);
 
-/* Writes the first of those ranges, as many as there is room for, and answers how many these are: by one search. */
+/* Writes the first of those ranges, as many as there is room for, and returns how many these are: by one search. */
 size_t range_map_u64_next_ranges(range_map_u64 map, uint64_t from, range_map_u64_stretch *out, size_t room);
 
 /* Makes a map of `count` ranges, a start and an end each, with their values; where they overlap the later one's holds.

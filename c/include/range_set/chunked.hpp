@@ -231,7 +231,8 @@ public:
     range_set<T> gaps(integer start, integer end) const { return overlapping(start, end).gaps(start, end); }
     std::string text() const { return set().text(); }
 
-    // Operations with a set of any kind. They go over all ranges of both.
+    // Operations with a set of any kind. Those that make a set go over all ranges of both; `|=` and the like cost what `chunked_combine` of
+    // range_set.h does.
     friend chunked_range_set operator|(const listed &a, const listed &b) { return combined(a, b, RANGE_SET_UNION); }
     friend chunked_range_set operator&(const listed &a, const listed &b) { return combined(a, b, RANGE_SET_INTERSECTION); }
     friend chunked_range_set operator-(const listed &a, const listed &b) { return combined(a, b, RANGE_SET_DIFFERENCE); }

@@ -1,5 +1,5 @@
 // SPDX-License-Identifier: MIT OR Apache-2.0
-// What sets answer, and their operators.
+// The questions of sets, and their operators.
 #ifndef RANGE_SET_QUESTIONS_HPP
 #define RANGE_SET_QUESTIONS_HPP
 
@@ -72,8 +72,8 @@ private:
     static range_set<T> combined(const operand<T> &a, const operand<T> &b, unsigned keep) { return range_set<T>::combine(a, b, keep); }
 };
 
-// What sets of all kinds answer, by the calls of their kind. An answer takes two searches at most, but `rank`, `select` and `covered`
-// look at each boundary up to it, `first_run` at those from `start` on, and `size` of a set in chunks adds up the chunks.
+// Questions of sets of all kinds, by the calls of their kind. Each takes two searches at most, but `rank`, `select` and `covered`
+// look at each boundary up to the result, `first_run` at those from `start` on, and `size` of a set in chunks adds up the chunks.
 template <class T, class Set, class Calls> class questions {
     using integer = detail::integer<T>;
     using amount = detail::amount<T>;
@@ -118,7 +118,7 @@ protected:
     typename Calls::set asked() const noexcept { return static_cast<const Set &>(*this).inner(); }
 };
 
-// What lists answer beside it, which are sets and views.
+// Questions of lists beside these: of sets and views.
 template <class T, class Set> class list_questions : public questions<T, Set, calls<T>> {
     using calls = detail::calls<T>;
     using number = typename calls::value;

@@ -260,9 +260,9 @@ private:
     template <class Call> static std::optional<range_set> read(range_set_status *status, Call call)
     {
         typename calls::set set = {};
-        const auto answer = call(nullptr, 0, &set);
-        const bool is_read = answer == RANGE_SET_DONE || answer == RANGE_SET_NO_ROOM;
-        if (status != nullptr) *status = is_read ? RANGE_SET_DONE : answer;
+        const auto returned = call(nullptr, 0, &set);
+        const bool is_read = returned == RANGE_SET_DONE || returned == RANGE_SET_NO_ROOM;
+        if (status != nullptr) *status = is_read ? RANGE_SET_DONE : returned;
         return is_read ? std::optional(written(set.len, call)) : std::nullopt;
     }
 
