@@ -18,7 +18,8 @@ import sys
 import time
 from array import array
 from bisect import bisect_left, bisect_right
-from datetime import datetime, timedelta
+from datetime import date, datetime, timedelta
+from ipaddress import IPv4Address
 
 from range_sets import MutableRangeSet, RangeMap, RangeSet, _core, union
 
@@ -333,6 +334,16 @@ def of_many(count):
         row("and `m -= few`", changed(lambda start: changing.__isub__(few))),
         row("and `m.rank(a)`", changed(changing.rank)),
         row("`RangeSet([(a, b)])`", lambda: RangeSet([(3, 5)]), times=2000),
+        *(
+            row(f"`RangeSet([(a, b)])` of {name}", lambda: RangeSet([pair]), times=2000)
+            for name, pair in (
+                ("times", (datetime(2026, 5, 4, 9), datetime(2026, 5, 4, 10))),
+                ("dates", (date(2026, 5, 4), date(2026, 5, 5))),
+                ("floats", (0.5, 2.5)),
+                ("addresses", (IPv4Address("10.0.0.0"), IPv4Address("10.0.1.0"))),
+                ("texts", ("a", "b")),
+            )
+        ),
         row("`m.add(7)`", lambda: changing.add(7), times=2000),
     ]
     table([f"{count:,} ranges", "Time"], rows)
@@ -381,6 +392,7 @@ def of_arrays(numpy, count):
     made_up_by = numpy.random.default_rng(5)
     flat, values = numpy.arange(0, 20 * count, 10), numpy.arange(count).astype(object) % 7
     many, names = RangeSet.from_boundaries(flat), RangeMap(((20 * at, 20 * at + 10), at % 7) for at in range(count))
+    table_of, numbers = flat.reshape(-1, 2), numpy.arange(count) % 7
     asked = made_up_by.integers(0, 20 * count, count)
     ends, ordered, by_hand = asked + 100, numpy.sort(asked), ByHand(numpy, flat, values)
     copied, flat_copied, packed, packed_flat = RangeSet.from_boundaries(flat), flat.copy(), pickle.dumps(many), pickle.dumps(flat)
@@ -400,6 +412,7 @@ def of_arrays(numpy, count):
             lambda: by_hand.overlaps(ordered, ordered + 5),
         ),
         ("`get` of a map", lambda: names.get(asked), lambda: by_hand.get(asked)),
+        ("`find` of a map", lambda: numpy.asarray(names.find(3)), lambda: table_of[numbers == 3].reshape(-1)),
         ("`==`", lambda: many == copied, lambda: numpy.array_equal(flat, flat_copied)),
         ("`pickle.loads`", lambda: numpy.asarray(pickle.loads(packed)), lambda: pickle.loads(packed_flat)),
         ("of ranges far apart", lambda: numpy.asarray(pickle.loads(packed_far)), lambda: pickle.loads(packed_flat_far)),

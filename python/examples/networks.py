@@ -1,10 +1,10 @@
-"""Which addresses of some networks are free, once others are taken: a network a line, `10.0.0.0/8`, with a minus before a taken one.
+"""Which addresses are free, once others are taken: a network a line, `10.0.0.0/8`, an address, or a range of them, `10.0.0.5-10.0.0.9`; with a
+minus before taken ones.
 
     python3 networks.py FILE
 """
 
 import sys
-from ipaddress import IPv4Network
 from pathlib import Path
 
 from range_sets import RangeSet
@@ -14,8 +14,8 @@ def main(path):
     given, taken = [], []
     for line in Path(path).read_text(encoding="ascii").split():
         networks = taken if line.startswith("-") else given
-        networks.append(IPv4Network(line.removeprefix("-")))
-    free = RangeSet(given) - RangeSet(taken)
+        networks.append(line.removeprefix("-"))
+    free = RangeSet(given, kind="IPv4Address") - RangeSet(taken, kind="IPv4Address")
     for network in free.networks():
         print(network)
     print(f"{free.covered():,} addresses are free")

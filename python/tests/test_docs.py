@@ -34,8 +34,10 @@ def examples():
 
 def load_tests(loader, tests, pattern):
     for test in examples():
-        wants_numpy = "numpy array of" in test.docstring or any("import numpy" in it.source for it in test.examples)
-        if importlib.util.find_spec("numpy") or not wants_numpy:
+        source = "".join(it.source for it in test.examples)
+        wanted = ["numpy"] * ("numpy array of" in test.docstring or "import numpy" in source)
+        wanted += ["pandas"] * any(it in source for it in (".to_frame()", ".to_series()", ".intervals()"))
+        if all(map(importlib.util.find_spec, wanted)):
             tests.addTest(doctest.DocTestCase(test, optionflags=doctest.IGNORE_EXCEPTION_DETAIL))
     return tests
 
@@ -73,7 +75,7 @@ class Help(unittest.TestCase):
         text = pydoc.plain(pydoc.render_doc(range_sets.RangeSet))
         self.assertTrue(text.startswith("Python Library Documentation: class RangeSet in module range_sets"))
         self.assertIn("covers(self, start: 'Any', end: 'Any' = Ellipsis)", text)
-        for name in ("Source", "Element", "OneRange", "KindLike"):
+        for name in ("Source", "E", "OneRange", "KindLike"):
             self.assertIn(f"`{name}`", text)
 
 

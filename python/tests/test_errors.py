@@ -407,14 +407,18 @@ apart = [((2, 4), "c"), ((3902, 3904), "d")]
 wide = [((5, None), "w"), *many]
 some = RangeSet([(2, 4), (6, 7), (2500, 2509), (29990, None)])
 ends = [(start, end) for start in (-5, 3, 2500) for end in (start + 1, start + 700, None)]
-for count, lasts in itertools.product((0, 1, 3, 400), (0, 1)):
+searches = [("get", (3,)), ("overlapping", (5, 500)), ("part", (5, 500)), ("put", (3, 703, "x")), ("update", (few,)), ("clear", ())]
+calls = [
+    *(("put", (*it, "x")) for it in ends), *(("remove", it) for it in ends), ("update", (few,)), ("update", (many,)),
+    ("update", (wide,)), ("update", (apart,)), ("__setitem__", (some, "x")), ("__delitem__", (some,)), ("clear", ()), ("copy", ()),
+    ("__getitem__", (some,)), ("domain", ()), ("find", (7,)), ("gaps", (5, 500)), ("combine", (RangeMap(few), lambda a, b: 7)),
+    ("combine", (RangeMap(few), lambda a, b: [a], 5)), ("modify", (slice(3, 300), lambda it: it + 1, 0)),
+]
+for count, lasts, is_list in itertools.product((0, 1, 3, 400), (0, 1), (False, True)):
     before = RangeMap([((10 * n, 10 * n + 6), 7 * n) for n in range(count)])
-    for name, given in [
-        *(("put", (*it, "x")) for it in ends), *(("remove", it) for it in ends), ("update", (few,)), ("update", (many,)),
-        ("update", (wide,)), ("update", (apart,)), ("__setitem__", (some, "x")), ("__delitem__", (some,)), ("clear", ()), ("copy", ()),
-        ("__getitem__", (some,)), ("domain", ()), ("find", (7,)), ("gaps", (5, 500)), ("combine", (RangeMap(few), lambda a, b: 7)),
-        ("combine", (RangeMap(few), lambda a, b: [a], 5)),
-    ]:
+    # One that was searched is no list any more.
+    is_list or before.get(3)
+    for name, given in searches if is_list else calls:
         for after in range(5000):
             made, again = before.copy(), before.copy()
             refuse_after(after, lasts)
@@ -508,6 +512,10 @@ class EachRequest(unittest.TestCase):
             (_core.unpack, (packed,)),
             (_core.lengths_of_floats, (q(0, 10, 2**62, 2**62 + 5),)),
             (_core.mirror, (memoryview(b"." + bytes(8))[1:].cast("q"), q(5))),
+            (_core.moved, (_core.from_boundaries(a), -(2**63), 2**63 - 1, -(2**63) - 5, 2**63, True, False)),
+            (_core.at_least, (_core.from_boundaries(a), 5)),
+            (_core.first_fit_aligned, (a, 2**40, 2**41, 5, 2**36)),
+            (_core.first_run, (a, 2**40, 2**41, 5)),
             (_core.union, (memoryview(b"." + bytes(16))[1:].cast("q")[:1], b)),
             (_core.from_values, (q(2**63 - 1),)),
         ):

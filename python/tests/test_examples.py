@@ -88,6 +88,7 @@ class Examples(unittest.TestCase):
             ),
             ("10.0.0.0/24 -10.0.0.0/8", ["0 addresses are free"]),
             ("", ["0 addresses are free"]),
+            ("10.0.0.0/30 -10.0.0.1-10.0.0.2", ["10.0.0.0/32", "10.0.0.3/32", "2 addresses are free"]),
             ("224.0.0.0/3 -224.0.0.0/4", ["240.0.0.0/4", "268,435,456 addresses are free"]),
         ):
             with self.subTest(text=text):

@@ -2,6 +2,7 @@
 
 import importlib.metadata
 import pathlib
+import subprocess
 import sys
 import sysconfig
 import unittest
@@ -50,6 +51,16 @@ class Installed(unittest.TestCase):
     def test_every_public_name_is_there(self):
         for name in range_sets.__all__:
             self.assertTrue(hasattr(range_sets, name), name)
+
+    def test_an_import_reads_no_module_that_only_types_or_pickles_need(self):
+        folder = str(pathlib.Path(range_sets.__file__).parent.parent)
+        code = "import sys; sys.path.append(sys.argv[1]); import range_sets; print(*sys.modules)"
+        # Without `site`, which may import any of them.
+        run = subprocess.run([sys.executable, "-I", "-S", "-c", code, folder], capture_output=True, text=True, check=True)
+        modules = run.stdout.split()
+        self.assertIn("range_sets", modules)
+        for name in ("typing", "enum", "re", "contextlib", "copy", "pickle", "numpy", "pandas"):
+            self.assertNotIn(name, modules)
 
 
 if __name__ == "__main__":

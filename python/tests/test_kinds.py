@@ -248,7 +248,7 @@ class EachKind(unittest.TestCase):
     def test_kinds_do_not_mix(self):
         made = {name: RangeSet((elements[1], elements[2]), kind=name) for name, elements in ELEMENTS.items()}
         # Of these a set of one makes a set of another.
-        times = {"datetime"} | {name for name in ELEMENTS if name.startswith("datetime64[")}
+        times = {"date", "datetime"} | {name for name in ELEMENTS if name.startswith("datetime64[")}
         for (name, a), (other, b) in itertools.permutations(made.items(), 2):
             with self.subTest(kinds=(name, other)):
                 self.assertNotEqual(a, b)
@@ -350,6 +350,78 @@ class EachKind(unittest.TestCase):
             self.assertEqual(made, RangeSet((elements[1], None), kind=name))
             made.clear()
             self.assertEqual((made.kind, bool(made)), (name, False))
+
+
+class Zone(datetime.tzinfo):
+    """One that has an answer for each time."""
+
+    def __init__(self, answer):
+        self.answer = answer
+
+    def utcoffset(self, time):
+        return self.answer(time)
+
+
+class OwnTime(datetime.datetime):
+    pass
+
+
+class Times(unittest.TestCase):
+    first, unit = datetime.datetime(1970, 1, 1), timedelta(microseconds=1)
+
+    def made_up(self, count):
+        made = random.Random(2026)
+        span = (datetime.datetime.max - datetime.datetime.min) // self.unit
+        leap = [datetime.datetime(year, 2, 28) + timedelta(days=day) for year in (4, 100, 400, 1900, 2000, 2024) for day in range(3)]
+        ends = [datetime.datetime.min, datetime.datetime.max, self.first, self.first - self.unit]
+        return [*ends, *leap, *(datetime.datetime.min + made.randrange(span) * self.unit for _ in range(count))]
+
+    def test_a_number_is_the_microseconds_from_1970_on(self):
+        naive = _kinds.NAIVE
+        for of_type in (datetime.datetime, OwnTime):
+            times = [of_type.combine(it.date(), it.time()) for it in self.made_up(3000)]
+            expected = [(it - self.first) // self.unit for it in times]
+            self.assertEqual([*map(naive.code, times)], expected)
+            self.assertEqual(naive.codes(times), expected)
+            self.assertEqual([naive.value(it) for it in expected], times)
+
+    def test_those_with_a_time_zone_are_counted_in_utc(self):
+        first, aware = self.first.replace(tzinfo=timezone.utc), _kinds.AWARE
+        offsets = [timedelta(hours=5, minutes=45), -timedelta(hours=9), timedelta(seconds=1, microseconds=3), timedelta(0)]
+        zones = [timezone.utc, *map(timezone, offsets), Zone(lambda time: timedelta(minutes=time.minute))]
+        times = [it.replace(tzinfo=zone) for it in self.made_up(500) if 1 < it.year < 9999 for zone in zones]
+        expected = [(it - first) // self.unit for it in times]
+        self.assertEqual([*map(aware.code, times)], expected)
+        self.assertEqual(aware.codes(times), expected)
+
+    def test_whether_a_time_has_a_zone(self):
+        """A tzinfo may say that a time has none."""
+        nine = datetime.datetime(2026, 5, 4, 9)
+        without = [nine, nine.replace(tzinfo=Zone(lambda time: None)), OwnTime(2026, 5, 4, 9)]
+        with_one = [nine.replace(tzinfo=timezone.utc), nine.replace(tzinfo=Zone(lambda time: timedelta(hours=1)))]
+        for kind, mine, others in ((_kinds.NAIVE, without, with_one), (_kinds.AWARE, with_one, without)):
+            self.assertEqual(len(kind.codes(mine)), len(mine))
+            for other in (*others, date(2026, 5, 4), 5, None, "2026-05-04"):
+                for call in (
+                    kind.code,
+                    lambda it: kind.codes([mine[0], it]),
+                    lambda it: RangeSet([(mine[0], mine[0]), (it, it)], kind=kind.name),
+                ):
+                    if other is not None or call == kind.code:
+                        self.assertRaisesRegex(TypeError, f"expected {kind.element}", call, other)
+
+    def test_a_zone_that_raises(self):
+        def raises(time):
+            raise KeyError("zone")
+
+        nine = datetime.datetime(2026, 5, 4, 9, tzinfo=Zone(raises))
+        later = datetime.datetime(2026, 5, 4, 9, tzinfo=timezone.utc)
+        for call in (
+            lambda: _kinds.AWARE.code(nine),
+            lambda: RangeSet([(later, later), (nine, nine)]),
+            lambda: nine in RangeSet(kind="datetime[UTC]"),
+        ):
+            self.assertRaisesRegex(KeyError, "zone", call)
 
 
 class Untold(unittest.TestCase):

@@ -9,7 +9,7 @@ from pathlib import Path
 
 from selenium import webdriver
 
-from range_sets import RangeSet
+from range_sets import RangeMap, RangeSet
 
 MOST, HOUR, NOON = 2**63 - 1, 3_600_000_000, datetime(2026, 5, 4, 12)
 SETS = [
@@ -38,6 +38,11 @@ SETS = [
     RangeSet([IPv4Network("10.0.0.0/8"), IPv4Network("192.168.0.0/16"), IPv4Network("240.0.0.0/4")]),
     RangeSet([(0, 2**64 - 1)], unsigned=True),
     RangeSet([(2**63, 2**63 + 1)], unsigned=True),
+    RangeSet([("WWWWWWWW", "mmmmmmmm"), ("www", None)]),
+    RangeMap([((0, 5), "low"), ((5, 7), "WWWWWWWW"), ((7, 12), "M" * 99), ((20, None), "high")]),
+    RangeMap([((10 * n, 10 * n + 9), f"Wm{n}") for n in range(1000)]),
+    RangeMap([((None, None), ["a"])]),
+    RangeMap(),
 ]
 # The words of each picture, by the box that each takes within it, and its colour by the picture's text and its page.
 SCRIPT = """

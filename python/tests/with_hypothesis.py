@@ -115,6 +115,25 @@ class AgainstSets(unittest.TestCase):
         fits = [n for n in range(start, end - length + 1) if x.isdisjoint(range(n, n + length))]
         self.assertEqual(RangeSet(pairs).first_fit(length, start, end), min(fits, default=None))
 
+    @given(small_lists, some.integers(0, 12), some.integers(1, 9), some.integers(SMALL[0], SMALL[-1]), some.integers(SMALL[0], SMALL[-1]))
+    def test_where_numbers_fit_at_multiples_and_where_all_are_members(self, pairs, length, align, start, end):
+        x, asked = points_of(pairs), range(start, end - length + 1)
+        fits = [n for n in asked if n % align == 0 and x.isdisjoint(range(n, n + length))]
+        runs = [n for n in asked if x.issuperset(range(n, n + length))]
+        for made in (RangeSet(pairs), MutableRangeSet(pairs)):
+            self.assertEqual(made.first_fit_aligned(length, align, start, end), min(fits, default=None))
+            self.assertEqual(made.first_run(length, start, end), min(runs, default=None))
+
+    @given(small_lists, some.integers(0, 9), some.integers(0, 9), some.integers(-30, 30))
+    def test_moves(self, pairs, before, after, by):
+        for made in (RangeSet(pairs), MutableRangeSet(pairs)):
+            self.assertEqual(members(made.shift(by)), {n for n in POINTS if n - by in made})
+            near = {n for n in POINTS if not made.isdisjoint([(n - after, n + before + 1)])}
+            self.assertEqual(members(made.widen(before, after)), near)
+            self.assertEqual(members(made.widen(-before, -after)), {n for n in POINTS if made.covers(n - before, n + after + 1)})
+            long = [(start, end) for start, end in made if end is None or end - start >= after]
+            self.assertEqual(list(made.at_least(after)), long)
+
     @given(small_lists, some.lists(some.tuples(some.sampled_from(["add", "discard", "|", "&", "-", "^"]), small_lists), max_size=6))
     def test_changes_in_place(self, pairs, changes):
         made, expected = MutableRangeSet(pairs), points_of(pairs)

@@ -176,9 +176,10 @@ class Frames(unittest.TestCase):
             ValueError, "a time of whole ns in 64 bits", RangeSet, RangeSet([(datetime.min, None)]), kind="datetime64[ns]"
         )
         hint = "; with kind='datetime64.ns.' pandas' Timestamps make such a set$"
-        for call in (lambda: made.contains(frame["start"]), lambda: RangeSet(frame, kind="datetime")):
+        for call in (lambda: made.contains(frame["start"].to_numpy()), lambda: RangeSet(frame, kind="datetime")):
             with self.assertRaisesRegex(TypeError, hint):
                 call()
+        self.check_columns_of_another_unit(made, seconds)
         self.assertEqual(RangeSet([pair], kind="datetime64[ns]") | of_frame, of_frame)
         intervals = pandas.arrays.IntervalArray.from_arrays(frame["start"], frame["end"], closed="left")
         for given in (intervals, pandas.IntervalIndex(intervals), pandas.Series(intervals), pandas.Series(intervals).astype(object)):
@@ -186,11 +187,32 @@ class Frames(unittest.TestCase):
         naive = RangeMap({pair: "a"})
         self.assertEqual((naive.kind, naive[of_frame], naive.get(frame["start"]).tolist()), ("datetime64[ns]", naive, ["a"]))
 
+    def check_columns_of_another_unit(self, *sets):
+        """Each has its answer as `in` has of one of its Timestamps."""
+        times = pandas.to_datetime(["2026-05-01", "2026-05-03 23:59:59", "2026-05-04", None, "1677-09-22", "2262-04-11"])
+        finer = pandas.Series([*times, pandas.Timestamp(1)])
+        for made in (*sets, RangeSet(kind="datetime"), ~RangeSet(kind="datetime64[s]")):
+            expected = [it is not pandas.NaT and it in made for it in times]
+            pairs = [made.range_at(it) if it is not pandas.NaT else None for it in times]
+            for column in (times, pandas.Series(times), times.array):
+                self.assertEqual(made.contains(column).tolist(), expected)
+                self.assertEqual(made.overlaps(column, column + pandas.Timedelta(hours=1)).shape, (6,))
+                starts, _ = made.range_at(column)
+                self.assertEqual([*~starts.mask], [it is not None for it in pairs])
+                names = RangeMap([(it, "a") for it in made], kind=made.kind)
+                self.assertEqual(names.get(column, "").tolist(), ["a" if it else "" for it in expected])
+            said = "expected microseconds, and .* has nanoseconds" if made.kind == "datetime" else "a time of whole s in 64 bits"
+            for call in (lambda: made.contains(finer), lambda: finer[6] in made, lambda: made.covered_within(finer, finer)):
+                self.assertRaisesRegex(ValueError, said, call)
+        zoned = pandas.Series(times).dt.tz_localize("Europe/Berlin")
+        for made in sets:
+            self.assertRaises(TypeError, made.contains, zoned)
+
     def test_errors_that_name_the_way_out(self):
         start, end = self.frame["start"], self.frame["end"]
         days, times = RangeSet([(date(2026, 5, 1), date(2026, 5, 3))]), pandas.Series(pandas.to_datetime(["2026-05-02", "2026-05-03"]))
         for call, said in (
-            (lambda: RangeMap(self.frame), r"not a table: zip\(zip\(t\['start'\], t\['end'\]\), t\['value'\]\) has them"),
+            (lambda: RangeMap(self.frame), r"not a table: t\[\['start', 'end', 'value'\]\] has the range and the value of each row"),
             (lambda: RangeMap.depth(self.frame), r"not a table: t\[\['start', 'end'\]\] has the range of each row"),
             (lambda: days.contains(times), r"a column's .dt.date has dates, and so has an array.astype\('M8\[D\]'\)"),
         ):

@@ -2,15 +2,17 @@
 
 from __future__ import annotations
 
-from typing import Any
-
 from . import _core
 from ._floats import FLOAT
 from ._kind import NAT, NO_KIND, Kind, Now
 from ._kinds import kind_of_first
 from ._numbers import typecode_of
 from ._ordered import Ordered
-from ._times import AWARE, DELTA
+from ._times import AWARE, DELTA, NAIVE, Numpys, in_unit
+from ._typing import TYPE_CHECKING
+
+if TYPE_CHECKING:
+    from typing import Any
 
 
 def codes_of_each(kind: Kind, values: Any) -> tuple[Any, Any]:
@@ -30,6 +32,11 @@ def codes_of_each(kind: Kind, values: Any) -> tuple[Any, Any]:
         return found.astype(typecode_of(kind.unsigned)), gone
     if kind.dtype is not None and found.dtype.newbyteorder("=") == numpy.dtype(kind.dtype):
         return found.astype(kind.dtype).view("i8"), numpy.isnat(found)
+    letter = "m" if kind is DELTA else "M" if kind is NAIVE or isinstance(kind, Numpys) else ""
+    if found.dtype.kind == letter and hasattr(values, "to_numpy"):
+        times, gone = _in_unit_of(kind, values), numpy.isnat(found)
+        codes = times.view("i8")
+        return codes, gone | (codes < kind.least) | (codes > kind.most)
     if kind is FLOAT and found.dtype.kind == "f" and found.dtype.itemsize <= 8:
         gone = numpy.isnan(found)
         return codes_of_floats(numpy.where(gone, 0, found)), gone
@@ -45,6 +52,22 @@ def codes_of_each(kind: Kind, values: Any) -> tuple[Any, Any]:
     none = [it is None or not kind.least <= it <= kind.most for it in codes]
     numbers = [0 if is_none else it for it, is_none in zip(codes, none)]
     return numpy.array(numbers, dtype=typecode_of(kind.unsigned)).reshape(found.shape), numpy.array(none, dtype=bool).reshape(found.shape)
+
+
+def _in_unit_of(kind: Kind, column: Any) -> Any:
+    """The times or lengths of a column of pandas in a kind's unit, or the error of one that it hasn't."""
+    import numpy
+
+    found, is_exact = in_unit(numpy.asarray(column), kind.dtype)
+    for it in numpy.asarray(column, dtype=object).reshape(-1)[~is_exact.reshape(-1)][:1]:
+        kind.number(it)
+    return found
+
+
+def lengths_in_python(column: Any) -> Any:
+    """A column of pandas with lengths of time as microseconds, and anything else as it is."""
+    letter = getattr(getattr(column, "dtype", None), "kind", "")
+    return _in_unit_of(DELTA, column) if letter == "m" and hasattr(column, "to_numpy") else column
 
 
 def _objects(values: Any) -> Any:
@@ -162,13 +185,16 @@ def times_in_utc(column: Any, kind: Kind | None) -> Any:
         return None
     import numpy
 
-    found = numpy.asarray(column, dtype=f"M8[{dtype.unit}]")
-    times = found.astype(AWARE.dtype)
-    there = ~numpy.isnat(found)
-    numbers = times[there].view("i8")
-    if (times.astype(found.dtype) != found)[there].any() or (numbers < AWARE.least).any() or (numbers > AWARE.most).any():
-        return None
-    return times
+    times, is_exact = in_unit(numpy.asarray(column, dtype=f"M8[{dtype.unit}]"), AWARE.dtype)
+    numbers = times[~numpy.isnat(times)].view("i8")
+    return times if is_exact.all() and (numbers >= AWARE.least).all() and (numbers <= AWARE.most).all() else None
+
+
+def has_mask(items: Any) -> bool:
+    """Whether it is an array of numpy's that has a mask."""
+    # A column of pandas has a method of that name.
+    mask = getattr(items, "mask", None)
+    return mask is not None and not callable(mask)
 
 
 def refuse_nats(times: Any) -> None:

@@ -14,20 +14,40 @@ from __future__ import annotations
 from array import array
 from itertools import zip_longest
 from operator import index
-from typing import Any, Iterator, Protocol, SupportsIndex, overload
 
 from . import _core
 from ._arrays import contains_each
 from ._core import Boundaries
 from ._kinds import whole
 from ._numbers import typecode_of
+from ._typing import TYPE_CHECKING
 
+if not TYPE_CHECKING:
+    from ._typing import overload
+else:
+    from typing import Any, Iterator, Protocol, SupportsIndex, overload
 
-class Buffer(Protocol):
-    """What checkers of types know of arrays, memoryviews and numpy arrays: the buffer protocol has no type before Python 3.12."""
+    from ._typing import Buffer
 
-    def tolist(self, /) -> Any:
-        ...
+    # With `out` they answer a length.
+
+    class _OfTwo(Protocol):
+        @overload
+        def __call__(self, a: Buffer, b: Buffer, *, out: None = None) -> array[int]:
+            ...
+
+        @overload
+        def __call__(self, a: Buffer, b: Buffer, *, out: Buffer) -> int:
+            ...
+
+    class _OfARange(Protocol):
+        @overload
+        def __call__(self, a: Buffer, start: SupportsIndex, end: SupportsIndex, *, out: None = None) -> array[int]:
+            ...
+
+        @overload
+        def __call__(self, a: Buffer, start: SupportsIndex, end: SupportsIndex, *, out: Buffer) -> int:
+            ...
 
 
 def _array(items: Boundaries) -> array[int]:
@@ -39,29 +59,6 @@ def _array(items: Boundaries) -> array[int]:
 def _array_or_len(answer: Boundaries | int) -> array[int] | int:
     """A new array of the boundaries, or with `out` the length that was written there."""
     return answer if isinstance(answer, int) else _array(answer)
-
-
-class _OfTwo(Protocol):
-    @overload
-    def __call__(self, a: Buffer, b: Buffer, *, out: None = None) -> array[int]:
-        ...
-
-    @overload
-    def __call__(self, a: Buffer, b: Buffer, *, out: Buffer) -> int:
-        ...
-
-
-class _OfARange(Protocol):
-    @overload
-    def __call__(self, a: Buffer, start: SupportsIndex, end: SupportsIndex, *, out: None = None) -> array[int]:
-        ...
-
-    @overload
-    def __call__(self, a: Buffer, start: SupportsIndex, end: SupportsIndex, *, out: Buffer) -> int:
-        ...
-
-
-# What checkers of types know of these: with `out` they answer a length.
 
 
 def _of_two(call: Any) -> _OfTwo:

@@ -37,8 +37,7 @@ static Range around(const Steps *self, Range range)
     ((range).has_end ? range_map_##type##_remove(handle, (range).start, (range).end) \
                      : range_map_##type##_remove_from(handle, (range).start))
 
-/* Gives the keys of a range the value of a number, or with NONE none, without a count. */
-static range_set_status put(Steps *self, Range range, size_t number)
+range_set_status put(Steps *self, Range range, size_t number)
 {
     self->changes++;
     if (number == NONE) return self->is_signed ? TAKE(i64, &self->handle.i64, range) : TAKE(u64, &self->handle.u64, range);
@@ -90,25 +89,18 @@ static bool are_in_order(const Steps *self, const Change *changes, size_t count)
     return true;
 }
 
-range_set_status put_in_order(Steps *self, const Change *changes, size_t count)
+/* Adds a change to some, of which there may be more. */
+static bool add_change(Change **changes, size_t *len, size_t *room, Change it)
 {
-    range_set_status status = RANGE_SET_DONE;
-    for (size_t i = 0, next; status == RANGE_SET_DONE && i < count; i = next) {
-        Range range = changes[i].range;
-        size_t number = changes[i].number;
-        /* Neighbours that have one value are one range. */
-        for (next = i + 1; next < count && changes[next].number == number && range.has_end; next++) {
-            if (changes[next].range.start != range.end) break;
-            range.end = changes[next].range.end;
-            range.has_end = changes[next].range.has_end;
-        }
-        if (number == NONE) continue;
-        status = put(self, range, number);
-        if (status != RANGE_SET_DONE) break;
-        count_ranges(&self->values, number, 1);
-        self->len++;
+    if (*len == *room) {
+        size_t more = 2 * (*len + 8);
+        Change *longer = PyMem_Realloc(*changes, more * sizeof **changes);
+        if (longer == NULL) return false;
+        *changes = longer;
+        *room = more;
     }
-    return status;
+    (*changes)[(*len)++] = it;
+    return true;
 }
 
 /* Notes what a range has, or nothing if there is no memory for it. */
@@ -117,16 +109,10 @@ static range_set_status note(Steps *self, Range range)
     size_t len = self->undo_len;
     Stretch it = {.end = range.start};
     do {
-        if (len == self->undo_room) {
-            size_t room = 2 * (len + 8);
-            Change *undo = PyMem_Realloc(self->undo, room * sizeof *undo);
-            if (undo == NULL) return RANGE_SET_NO_MEMORY;
-            self->undo = undo;
-            self->undo_room = room;
-        }
         uint64_t from = it.end;
         it = stretch_at(self, from);
-        self->undo[len++] = (Change){cut(self, &it, range, from), it.has_value ? it.value : NONE};
+        Change before = {cut(self, &it, range, from), it.has_value ? it.value : NONE};
+        if (!add_change(&self->undo, &len, &self->undo_room, before)) return RANGE_SET_NO_MEMORY;
     } while (ends_below(self, &it, range));
     self->undo_len = len;
     return RANGE_SET_DONE;
@@ -155,13 +141,25 @@ void drop_unused(Steps *self)
     if (self->undo_len == 0) drop_left(&self->values);
 }
 
-/* Does all changes, which are in order, or none. A single one is whole by itself. Out of a map that had nothing all is taken again. */
+/* Whether changes leave nothing of what a map has, which is in a list or nothing: then they make a new list. */
+static bool are_all(const Steps *self, const Change *changes, size_t count)
+{
+    return self->len == 0 || (self->has_list && count == 1 && changes->range.start == LEAST(self) && !changes->range.has_end);
+}
+
+/* Readies a map for changes. */
+static bool make_ready(Steps *self, const Change *changes, size_t count)
+{
+    return settle(self) && (are_all(self, changes, count) || is_built(self));
+}
+
+/* Does all changes, which are in order, or none. A single one is whole by itself. */
 static bool change_all(Steps *self, const Change *changes, size_t count)
 {
-    bool had_any = self->len > 0;
-    range_set_status status = !had_any && count > 1 ? note(self, ALL(self)) : RANGE_SET_DONE;
-    if (!had_any && status == RANGE_SET_DONE) status = put_in_order(self, changes, count);
-    for (size_t i = 0; status == RANGE_SET_DONE && had_any && i < count; i++) {
+    bool is_new = are_all(self, changes, count);
+    range_set_status status = is_new ? list_in_order(self, changes, count) : RANGE_SET_DONE;
+    if (!is_new && self->has_list) forget_list(self);
+    for (size_t i = 0; status == RANGE_SET_DONE && !is_new && i < count; i++) {
         if (count > 1) status = note(self, changes[i].range);
         if (status == RANGE_SET_DONE) status = change(self, changes[i]);
     }
@@ -293,6 +291,7 @@ static bool take_over(Steps *self, Steps *laid)
     Handle before = self->handle;
     self->handle = laid->handle;
     laid->handle = before;
+    forget_list(self);
     self->changes++;
     count_in(self, ALL(self), 1);
     return true;
@@ -308,7 +307,7 @@ static PyObject *change_joined(Steps *self, Change *pieces, size_t count, PyObje
     Py_ssize_t len;
     if (joined == NULL) return PyErr_NoMemory();
     do {
-        len = settle(self) ? (Py_ssize_t)count : -1;
+        len = make_ready(self, pieces, count) ? (Py_ssize_t)count : -1;
         seen = self->changes;
         if (len >= 0 && may_join && self->kind == kind) len = join(self, pieces, count, joined);
     } while (len >= 0 && self->changes != seen);
@@ -354,30 +353,37 @@ PyObject *steps_change(Steps *self, PyObject *const *args, Py_ssize_t n)
 
 /* ---- Parts ---- */
 
-/* Puts what the keys of a range have into another map, which has nothing from there on. */
-static bool put_part(Steps *self, Range range, Steps *made)
+/* Changes by which a map has what another has of some keys. */
+typedef struct {
+    Change *changes;
+    size_t len, room;
+} Pieces;
+
+/* Adds what the keys of a range have, whose values are put into the other map. */
+static bool add_part(Steps *self, Range range, Steps *made, Pieces *pieces)
 {
-    range_set_status status = RANGE_SET_DONE;
     Stretch it;
-    for (Walk walk = {range, true}; status == RANGE_SET_DONE && step(self, &walk, &it);) {
+    for (Walk walk = {range, true}; step(self, &walk, &it);) {
         size_t number;
         if (!find_or_add(&made->values, value_of(self, &it), &number)) return false;
-        status = put(made, cut(self, &it, range, it.start), number);
-        count_ranges(&made->values, number, 1);
-        made->len++;
+        Change piece = {cut(self, &it, range, it.start), number};
+        if (!add_change(&pieces->changes, &pieces->len, &pieces->room, piece)) return PyErr_NoMemory() != NULL;
     }
-    return status == RANGE_SET_DONE || raise_status(status, 0) != NULL;
+    return PyErr_Occurred() == NULL;
 }
 
 /* Another map with the values of some keys. Is given a list of the library's own, whose ranges are sorted and don't touch. */
 PyObject *steps_part(Steps *self, PyObject *object)
 {
     List ranges;
+    Pieces pieces = {NULL, 0, 0};
     if (PyBytes_CheckExact(object)) return PyErr_Format(PyExc_TypeError, "expected a list of the library's own");
     Steps *made = read_ranges(self, object, &ranges) ? new_steps(Py_TYPE(self), self->is_signed) : NULL;
     bool fits = made != NULL && settle(self);
     if (fits) take_kind(made, self->kind);
-    for (size_t i = 0; fits && i < count_of(&ranges); i++) fits = put_part(self, range_of(self, &ranges, i), made);
+    for (size_t i = 0; fits && i < count_of(&ranges); i++) fits = add_part(self, range_of(self, &ranges, i), made, &pieces);
+    fits = fits && change_all(made, pieces.changes, pieces.len);
+    PyMem_Free(pieces.changes);
     if (!fits) Py_CLEAR(made);
     return (PyObject *)made;
 }

@@ -2,7 +2,7 @@
 #include "_maps.h"
 
 typedef struct {
-    const Steps *maps[2];
+    Steps *maps[2];
     /* What is made: of two values by a function, and of one alone with what stands for the other, or NULL if it stays. */
     Steps *made;
     PyObject *how, *missing;
@@ -23,7 +23,7 @@ static void forget(Meeting *meeting)
 }
 
 /* The stretch from a key on, which may have no value: of a walk, and the range that it gave last. */
-static Stretch stretch_on(const Steps *self, Walk *walk, Stretch *next, uint64_t at)
+static Stretch stretch_on(Steps *self, Walk *walk, Stretch *next, uint64_t at)
 {
     if (next->has_end && next->end == at && !step(self, walk, next)) *next = (Stretch){.has_value = false};
     return next->has_value && next->start == at ? *next : (Stretch){.end = next->start, .has_end = next->has_value};
@@ -37,10 +37,12 @@ static bool has_one_range(const Steps *self, size_t number)
 /* Goes over both maps. It runs no code of Python. */
 static bool meet(Meeting *meeting)
 {
-    const Steps *self = meeting->maps[0], *other = meeting->maps[1];
-    Walk of_mine = {ALL(self)}, of_theirs = of_mine;
+    Steps *self = meeting->maps[0], *other = meeting->maps[1];
+    Walk of_mine, of_theirs;
     uint64_t at = LEAST(self);
     Stretch a = {.end = at, .has_end = true}, b = a, next = a, other_next = a;
+    begin_walk(self, ALL(self), &of_mine);
+    begin_walk(other, ALL(other), &of_theirs);
     /* Each end of a range begins one piece at most. */
     size_t most = 2 * (self->len + other->len);
     meeting->pieces = PyMem_Malloc(most * sizeof *meeting->pieces);
@@ -137,7 +139,7 @@ PyObject *steps_combine(Steps *self, PyObject *const *args, Py_ssize_t n)
         fits = meet(&meeting) && make_values(&meeting);
     }
     if (fits) {
-        range_set_status status = put_in_order(made, meeting.pieces, meeting.len);
+        range_set_status status = list_in_order(made, meeting.pieces, meeting.len);
         fits = status == RANGE_SET_DONE || raise_status(status, 0) != NULL;
     }
     forget(&meeting);

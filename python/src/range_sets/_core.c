@@ -1,7 +1,7 @@
 /* Functions over buffers of 64-bit whole numbers, by the proved calls for C. They are tested, not proved. */
 #include "_lists.h"
 
-/* What a call is given: up to two lists, up to two numbers of their type as bits, and a count. */
+/* What a call is given: up to two lists, up to two numbers of their type as bits, and up to two counts. */
 typedef struct {
     List lists[2];
     int held;
@@ -9,7 +9,7 @@ typedef struct {
     bool any_order;
     /* A set in chunks in the place of the first list, or NULL. */
     Chunked *chunked;
-    uint64_t numbers[2], count;
+    uint64_t numbers[2], counts[2];
 } Arguments;
 
 /* A call of range_set.h for the type of the lists, and what it is given. */
@@ -28,10 +28,19 @@ static void release_all(Arguments *given)
     while (given->held > 0) release(&given->lists[--given->held]);
 }
 
-/* Reads `lists` lists, then `numbers` numbers and perhaps a count; `more` objects may follow, which it leaves. */
-static bool read_arguments(Arguments *given, PyObject *const *args, Py_ssize_t n, int lists, int numbers, bool count, int more)
+/* Reads numbers of the type of the lists, and counts. */
+static bool read_numbers(Arguments *given, PyObject *const *args, bool is_signed, int numbers, int counts)
 {
-    int wanted = lists + numbers + count;
+    bool fits = true;
+    for (int i = 0; fits && i < numbers; i++) fits = read_number(args[i], is_signed, &given->numbers[i]);
+    for (int i = 0; fits && i < counts; i++) fits = read_number(args[numbers + i], false, &given->counts[i]);
+    return fits;
+}
+
+/* Reads `lists` lists, then `numbers` numbers and `counts` counts; `more` objects may follow, which it leaves. */
+static bool read_arguments(Arguments *given, PyObject *const *args, Py_ssize_t n, int lists, int numbers, int counts, int more)
+{
+    int wanted = lists + numbers + counts;
     if (n < wanted || n > wanted + more) {
         PyErr_Format(PyExc_TypeError, "expected %d arguments, not %zd", wanted, n);
         return false;
@@ -44,9 +53,7 @@ static bool read_arguments(Arguments *given, PyObject *const *args, Py_ssize_t n
         fits = borrow(args[given->held], &given->lists[given->held], false, false);
     if (fits && lists == 2 && given->lists[0].is_signed != given->lists[1].is_signed)
         fits = refuse(PyExc_TypeError, "signed and unsigned numbers don't mix: both lists have to be of one type");
-    for (int i = 0; fits && i < numbers; i++)
-        fits = read_number(args[lists + i], given->lists[0].is_signed, &given->numbers[i]);
-    if (fits && count) fits = read_number(args[wanted - 1], false, &given->count);
+    fits = fits && read_numbers(given, args + lists, given->lists[0].is_signed, numbers, counts);
     if (!fits) release_all(given);
     return fits;
 }
@@ -120,7 +127,7 @@ static PyObject *write_into(const Arguments *given, Operation *call, PyObject *o
 static PyObject *operate(PyObject *const *args, Py_ssize_t n, int lists, int cuts, bool any_order, Operation *call)
 {
     Arguments given;
-    if (!read_arguments(&given, args, n, lists, 0, false, 1)) return NULL;
+    if (!read_arguments(&given, args, n, lists, 0, 0, 1)) return NULL;
     if (lists == 2) cut(&given, cuts);
     given.any_order = any_order;
     PyObject *out = n > lists ? args[n - 1] : Py_None;
@@ -260,7 +267,7 @@ static PyObject *ask(PyObject *const *args, Py_ssize_t n, int lists, int numbers
 {
     Arguments given;
     bool answer = false;
-    if (!read_arguments(&given, args, n, lists, numbers, false, 0)) return NULL;
+    if (!read_arguments(&given, args, n, lists, numbers, 0, 0)) return NULL;
     if (lists == 2) cut(&given, cuts);
     PyThreadState *thread = let_others_run(lists == 2 ? given.lists[0].len + given.lists[1].len : 0);
     range_set_status status = lists == 2 ? check_sorted(&given) : RANGE_SET_DONE;
@@ -286,15 +293,14 @@ QUESTION(equal, 2, 0, NONE, CALL(equal, LISTS))
 /* ---- Numbers and ranges ---- */
 
 /* A set that changes may stand in the place of the list. It is looked at when the numbers are read, which may run Python's code. */
-static bool read_question(Arguments *given, PyObject *const *args, Py_ssize_t n, int numbers, bool count, bool wants_chunks)
+static bool read_question(Arguments *given, PyObject *const *args, Py_ssize_t n, int numbers, int counts, bool wants_chunks)
 {
     bool is_signed;
-    if (n == 0 || !is_chunks(args[0], &is_signed)) return read_arguments(given, args, n, 1, numbers, count, 0);
-    bool fits = has_arguments(n, 1 + numbers + count);
+    if (n == 0 || !is_chunks(args[0], &is_signed)) return read_arguments(given, args, n, 1, numbers, counts, 0);
+    bool fits = has_arguments(n, 1 + numbers + counts);
     given->held = 0;
     given->any_order = false;
-    for (int i = 0; fits && i < numbers; i++) fits = read_number(args[1 + i], is_signed, &given->numbers[i]);
-    if (fits && count) fits = read_number(args[n - 1], false, &given->count);
+    fits = fits && read_numbers(given, args + 1, is_signed, numbers, counts);
     if (!fits || !see_chunks(args[0], wants_chunks, &given->lists[0], &given->chunked)) return false;
     return given->lists[0].is_signed == is_signed || refuse(PyExc_TypeError, "the kind of the set has changed meanwhile");
 }
@@ -303,6 +309,11 @@ static bool read_question(Arguments *given, PyObject *const *args, Py_ssize_t n,
 #define ASK_OF(type, name, ...) \
     (given->chunked ? range_set_##type##_chunked_##name(given->chunked->type, __VA_ARGS__) \
                     : range_set_##type##_##name(SET(type, given->lists[0]), __VA_ARGS__))
+
+/* The same of where a count of numbers fits, which chunks remember. */
+#define ASK_TO_FIT(type, name, ...) \
+    (given->chunked ? range_set_##type##_chunked_##name(&given->chunked->type, given->numbers[0], given->numbers[1], __VA_ARGS__) \
+                    : range_set_##type##_##name(LIST_AND_NUMBERS(type), __VA_ARGS__))
 
 /* Each for a type of numbers, which `as_python` makes a number of Python's. */
 #define FOUND(type, name, ...) \
@@ -324,12 +335,16 @@ static bool read_question(Arguments *given, PyObject *const *args, Py_ssize_t n,
     FOUND(type, split, range_set_##type below, from; \
           range_set_##type##_split(LIST_AND_NUMBER(type), &below, &from); \
           return Py_BuildValue("nn", (Py_ssize_t)below.len, (Py_ssize_t)(given->lists[0].len - from.len));) \
-    FOUND(type, first_fit, number first; Chunked *set = given->chunked; \
-          bool fits = set ? range_set_##type##_chunked_first_fit(&set->type, given->numbers[0], given->numbers[1], given->count, &first) \
-                          : range_set_##type##_first_fit(LIST_AND_NUMBERS(type), given->count, &first); \
+    FOUND(type, first_fit, number first; \
+          return ASK_TO_FIT(type, first_fit, given->counts[0], &first) ? as_python(first) : Py_NewRef(Py_None);) \
+    FOUND(type, first_fit_aligned, number first; \
+          bool fits = ASK_TO_FIT(type, first_fit_aligned, given->counts[0], given->counts[1], &first); \
+          return fits ? as_python(first) : Py_NewRef(Py_None);) \
+    FOUND(type, first_run, number first; \
+          bool fits = ASK_OF(type, first_run, given->numbers[0], given->numbers[1], given->counts[0], &first); \
           return fits ? as_python(first) : Py_NewRef(Py_None);) \
     FOUND(type, select, number at; \
-          return ASK_OF(type, select, given->count, &at) ? as_python(at) : Py_NewRef(Py_None);) \
+          return ASK_OF(type, select, given->counts[0], &at) ? as_python(at) : Py_NewRef(Py_None);) \
     FOUND(type, covered, uint64_t count; \
           range_set_status status = check_sorted(given); \
           if (status != RANGE_SET_DONE) return raise_status(status, 0); \
@@ -338,26 +353,28 @@ static bool read_question(Arguments *given, PyObject *const *args, Py_ssize_t n,
 FINDS(i64, int64_t, PyLong_FromLongLong)
 FINDS(u64, uint64_t, PyLong_FromUnsignedLongLong)
 
-#define FIND(name, number_count, has_count, wants_chunks) \
+#define FIND(name, number_count, count_count, wants_chunks) \
     static PyObject *core_##name(PyObject *module, PyObject *const *args, Py_ssize_t n) \
     { \
         Arguments given; \
-        if (!read_question(&given, args, n, number_count, has_count, wants_chunks)) return NULL; \
+        if (!read_question(&given, args, n, number_count, count_count, wants_chunks)) return NULL; \
         PyObject *found = given.lists[0].is_signed ? find_##name##_i64(&given) : find_##name##_u64(&given); \
         release_all(&given); \
         return found; \
     }
 
-FIND(contains, 1, false, false)
-FIND(contains_range, 2, false, false)
-FIND(range_at, 1, false, false)
-FIND(span, 0, false, false)
-FIND(split, 1, false, false)
-FIND(rank, 1, false, false)
+FIND(contains, 1, 0, false)
+FIND(contains_range, 2, 0, false)
+FIND(range_at, 1, 0, false)
+FIND(span, 0, 0, false)
+FIND(split, 1, 0, false)
+FIND(rank, 1, 0, false)
 /* The chunks remember the gaps. */
-FIND(first_fit, 2, true, true)
-FIND(select, 0, true, false)
-FIND(covered, 0, false, false)
+FIND(first_fit, 2, 1, true)
+FIND(first_fit_aligned, 2, 2, true)
+FIND(first_run, 2, 1, false)
+FIND(select, 0, 1, false)
+FIND(covered, 0, 0, false)
 
 /* ---- Questions of many numbers ---- */
 
@@ -400,7 +417,7 @@ EACH(u64, uint64_t)
 static PyObject *each(PyObject *const *args, Py_ssize_t n, bool is_rank)
 {
     Arguments given;
-    if (!read_arguments(&given, args, n, 2, 0, false, 0)) return NULL;
+    if (!read_arguments(&given, args, n, 2, 0, 0, 0)) return NULL;
     const List *set = &given.lists[0], *values = &given.lists[1];
     uint64_t *below = is_rank ? PyMem_Calloc(set->len / 2 + 2, 8) : NULL;
     PyObject *bytes = is_rank && below == NULL ? PyErr_NoMemory() : PyBytes_FromStringAndSize(NULL, 8 * values->len);
@@ -420,7 +437,7 @@ static PyObject *each(PyObject *const *args, Py_ssize_t n, bool is_rank)
 static PyObject *core_contains_each(PyObject *module, PyObject *const *args, Py_ssize_t n)
 {
     Arguments given;
-    if (!read_arguments(&given, args, n, 2, 0, false, 0)) return NULL;
+    if (!read_arguments(&given, args, n, 2, 0, 0, 0)) return NULL;
     const List *set = &given.lists[0], *values = &given.lists[1];
     PyObject *bytes = PyBytes_FromStringAndSize(NULL, values->len);
     if (bytes != NULL) {
@@ -453,9 +470,11 @@ static PyMethodDef methods[] = {
     METHOD(union), METHOD(intersection), METHOD(difference), METHOD(symmetric_difference), METHOD(negation),
     METHOD_OF_ONE(from_boundaries), METHOD_OF_ONE(from_unsorted), METHOD_OF_ONE(from_ranges), METHOD(is_signed), METHOD(is_sorted),
     METHOD(is_empty), METHOD(contains), METHOD(contains_range), METHOD(is_disjoint), METHOD(intersects), METHOD(is_subset),
-    METHOD(equal), METHOD(range_at), METHOD(split), METHOD(rank), METHOD(first_fit), METHOD(select), METHOD(covered), METHOD(span), METHOD(parse),
+    METHOD(equal), METHOD(range_at), METHOD(split), METHOD(rank), METHOD(first_fit),
+    METHOD(first_fit_aligned), METHOD(first_run), METHOD(select), METHOD(covered), METHOD(span), METHOD(parse),
     METHOD_OF_ONE(print), METHOD_OF_ONE(pack), METHOD_OF_ONE(unpack), METHOD(over), METHOD(from_values), METHOD(places), METHOD(ranks),
-    METHOD(contains_each), METHOD(range_list), METHOD(from_pairs), METHOD(numbers_of_pairs), METHOD(depths), METHOD(ends_and_values), METHOD(mirror), METHOD_OF_ONE(lengths_of_floats),
+    METHOD(contains_each), METHOD(range_list), METHOD(from_pairs), METHOD(numbers_of_pairs), METHOD(depths), METHOD(ends_and_values), METHOD(moved),
+    METHOD(at_least), METHOD(mirror), METHOD_OF_ONE(lengths_of_floats), METHOD(number_of_time), METHOD(numbers_of_times),
     {NULL, NULL, 0, NULL},
 };
 

@@ -3,26 +3,29 @@
 from __future__ import annotations
 
 from array import array
-from typing import Any
 
 from . import _core
 from ._kind import SIGNED, UNSIGNED, Kind
 from ._numbers import typecode_of
-from ._sources import Form, _dimensions, _form_of, _numbers_of_table, _table_of, gather, items_of, of_one_kind
+from ._sources import _dimensions, _form_of, _numbers_of_table, _table_of, gather, items_of, of_one_kind
+from ._typing import TYPE_CHECKING
+
+if TYPE_CHECKING:
+    from typing import Any
 
 
 def ends_of_sets(source: Any, kind: Kind | None) -> tuple[Any, Any, Kind]:
     """The starts and ends of the ranges of sets, in turn, the starts of those without an end, and the kind. Each row of a table is a set."""
     form, wanted = _form_of(source), "sets, as in a list"
-    if form is Form.COLUMNS:
+    if form == "columns":
         if getattr(source, "shape", ())[1:] not in ((), (2,)):
             items_of(source, wanted, "t[['start', 'end']] has the range of each row")
         source, kind = _table_of(source, kind)
         form = _form_of(source)
-    if form is Form.TABLE and _dimensions(source) == 2:
+    if form == "table" and _dimensions(source) == 2:
         numbers, found = _numbers_of_table(source, kind)
         return numbers, array(typecode_of(found.unsigned)), found
-    if form is Form.OBJECTS:
+    if form == "objects":
         source = [*map(tuple, source.tolist())] if _dimensions(source) == 2 else source.tolist()
     items = (*items_of(source, wanted),)
     plain = None

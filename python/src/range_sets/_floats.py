@@ -2,15 +2,23 @@
 
 from __future__ import annotations
 
-import struct
 from array import array
 from math import inf
 from operator import index
-from typing import Any, Iterator
+from struct import Struct
 
 from . import _core
 from ._core import Boundaries
 from ._kind import LEAST, NAN, UNCOUNTED, Kind
+from ._typing import TYPE_CHECKING
+
+if TYPE_CHECKING:
+    from typing import Any, Iterator
+
+
+_FLOAT, _NUMBER = Struct("d"), Struct("q")
+# As many are faster at once than one by one.
+_MANY = 8
 
 
 def mirrored(numbers: Any) -> memoryview:
@@ -24,7 +32,7 @@ class Float(Kind):
     """Floats by their bits; the number of one below zero is minus the bits of its absolute value, so numbers sort as floats do."""
 
     def __init__(self) -> None:
-        self.infinity = struct.unpack("q", struct.pack("d", inf))[0]
+        self.infinity = _NUMBER.unpack(_FLOAT.pack(inf))[0]
         super().__init__("float", "a float", -self.infinity, self.infinity, "floats")
         self.uncounted = UNCOUNTED
 
@@ -33,11 +41,19 @@ class Float(Kind):
             value = _exact(value, self)
         if value != value:
             raise ValueError(NAN)
-        bits: int = struct.unpack("q", struct.pack("d", value))[0]
+        bits: int = _NUMBER.unpack(_FLOAT.pack(value))[0]
         return bits if bits >= 0 else LEAST - bits
 
+    def codes(self, values: list[Any]) -> list[int]:
+        if len(values) < _MANY or {*map(type, values)} != {float}:
+            return super().codes(values)
+        numbers = mirrored(memoryview(array("d", values)).cast("B").cast("q")).tolist()
+        if max(numbers) > self.most or min(numbers) < self.least:
+            raise ValueError(NAN)
+        return numbers
+
     def value(self, code: int) -> float:
-        found: float = struct.unpack("d", struct.pack("q", abs(code)))[0]
+        found: float = _FLOAT.unpack(_NUMBER.pack(abs(code)))[0]
         return found if code >= 0 else -found
 
     def values(self, codes: Any) -> Iterator[float]:
@@ -57,6 +73,15 @@ class Float(Kind):
 
     def count(self, length: Any) -> int:
         raise TypeError(f"{UNCOUNTED}, so no number of them fits anywhere: look at the lengths of gaps()")
+
+    def distance(self, length: Any) -> float:
+        found = self.value(self.code(length))
+        if found in (inf, -inf):
+            raise ValueError("expected a finite length")
+        return found
+
+    def line(self, boundaries: Boundaries) -> tuple[list[float], float, float]:
+        return [*self.values(boundaries)], -inf, inf
 
     def shown(self, value: float) -> str:
         return f"float('{value}')" if value in (inf, -inf) else repr(value)

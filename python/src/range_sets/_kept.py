@@ -2,13 +2,10 @@
 
 from __future__ import annotations
 
-import copy
 import sys
 from operator import index
-from pickle import PickleBuffer
-from typing import Any, Self, SupportsIndex
 
-from . import _core, _svg
+from . import _core
 from ._arrays import array_of
 from ._core import Boundaries
 from ._floats import FLOAT
@@ -16,6 +13,10 @@ from ._kind import NO_KIND, SIGNED, UNSIGNED, Kind, Now
 from ._kinds import agreed, kind_of_first, kind_of_pickle
 from ._numbers import in_this_order
 from ._ordered import ORDERED
+from ._typing import TYPE_CHECKING, E, Generic
+
+if TYPE_CHECKING:
+    from typing import Any, Self, SupportsIndex
 
 # `repr` writes a set or a map of more than `MANY` ranges by `SHOWN` at either end.
 MANY, SHOWN = 1000, 3
@@ -62,7 +63,7 @@ class Attributes:
         return f"{type(self).__name__}({', '.join(parts)})"
 
 
-class Kept(Attributes, _core.Set):
+class Kept(Attributes, _core.Set, Generic[E]):
     """The boundaries of a set and their kind, and its other forms.
 
     `_now` has both. A set that changes has another `_now` after each change, also by another thread, so a call reads it once.
@@ -99,7 +100,9 @@ class Kept(Attributes, _core.Set):
         return ", ".join(f"{start}..{end}" for start, end in zip(texts[::2], [*texts[1::2], ""]))
 
     def _repr_svg_(self) -> str:
-        return _svg.draw(self._over(*self._now))
+        from . import _svg
+
+        return _svg.draw(*self._now)
 
     def __array__(self, dtype: Any = None, copy: bool | None = None) -> Any:
         now = self._now
@@ -117,6 +120,8 @@ class Kept(Attributes, _core.Set):
         return object.__sizeof__(self) + 8 * len(self._now[0])
 
     def __reduce_ex__(self, protocol: SupportsIndex) -> tuple[Any, ...]:
+        from pickle import PickleBuffer
+
         # From protocol 5 on the memory may go beside the pickle, as between the processes of Dask.
         boundaries, kind = self._now
         is_far = _are_far_apart(boundaries)
@@ -131,6 +136,8 @@ class Kept(Attributes, _core.Set):
         return self._over(*self._now)._with(self.__getstate__())
 
     def __deepcopy__(self, memo: Any) -> Self:
+        import copy
+
         made = memo[id(self)] = self._over(*self._now)
         return made._with(copy.deepcopy(self.__getstate__(), memo))
 
@@ -152,19 +159,19 @@ def _are_far_apart(boundaries: Boundaries) -> bool:
     return len(boundaries) > MANY and sum(boundaries[it] - boundaries[it - 1] > _FAR for it in places) > _ASKED * 3 // 4
 
 
-def _checked(cls: type[Kept], boundaries: Boundaries, name: str | None) -> Kept:
+def _checked(cls: type[Kept[Any]], boundaries: Boundaries, name: str | None) -> Kept[Any]:
     kind = _unnamed_kind(boundaries) if name is None else kind_of_pickle(name)
     if not kind.has(boundaries):
         raise ValueError(f"the bytes are no set of the kind {kind.name}")
     return cls._over(boundaries, kind)
 
 
-def _unpacked(cls: type[Kept], memory: Any, name: str | None = None) -> Kept:
+def _unpacked(cls: type[Kept[Any]], memory: Any, name: str | None = None) -> Kept[Any]:
     """The set of a pickle, whose boundaries are checked anew."""
     return _checked(cls, _core.unpack(memory), name)
 
 
-def _restored(cls: type[Kept], memory: Any, unsigned: bool, order: str, name: str | None = None) -> Kept:
+def _restored(cls: type[Kept[Any]], memory: Any, unsigned: bool, order: str, name: str | None = None) -> Kept[Any]:
     """The same of one with the boundaries as they lie in memory, as version 0.2 wrote all."""
     # Bytes don't change, so that they aren't copied.
     numbers = memory if type(memory) is bytes else bytes(memoryview(memory))

@@ -6,47 +6,16 @@ numbers is a set of elements, and the library for C needs to know of numbers alo
 
 from __future__ import annotations
 
-from datetime import date, datetime, timedelta
-from ipaddress import IPv4Address, IPv6Address
+from datetime import datetime
 from operator import index
-from typing import Any, Iterable, Iterator, Protocol, SupportsIndex, Union
 
 from . import _core
 from ._core import Boundaries
 from ._numbers import expected_number, least, most
+from ._typing import TYPE_CHECKING
 
-
-class Scalar(Protocol):
-    """What checkers of types know of one `numpy.datetime64`."""
-
-    @property
-    def dtype(self) -> Any:
-        ...
-
-
-class Sortable(Protocol):
-    """What they know of one value of the kind `ordered`."""
-
-    def __lt__(self, other: Any, /) -> Any:
-        ...
-
-
-class Array(Protocol):
-    """What they know of arrays and columns."""
-
-    @property
-    def dtype(self) -> Any:
-        ...
-
-    def __len__(self) -> int:
-        ...
-
-
-# One element of a set.
-Element = Union[SupportsIndex, float, date, timedelta, IPv4Address, IPv6Address, Scalar, Sortable]
-# What is given as `kind`.
-KindLike = Union[str, type, None]
-
+if TYPE_CHECKING:
+    from typing import Any, Iterable, Iterator
 
 # The numbers of 64 bits with a sign.
 LEAST, MOST = least(unsigned=False), most(unsigned=False)
@@ -79,10 +48,17 @@ class Kind:
         self.is_ordered, self.is_in_chunks = False, True
         # What an error says if its elements aren't counted one by one.
         self.uncounted = ""
+        # Whether a start at the least element says that there is none, as it does unless that is zero, and whether a range without an end
+        # has it above the greatest element.
+        self.is_open_below, self.ends_at_most = least != 0, False
 
     def code(self, value: Any) -> int:
         """The number of an element, which may lie outside of the kind's; a TypeError if it is no element of the kind."""
         raise NotImplementedError
+
+    def codes(self, values: list[Any]) -> list[int]:
+        """The number of each of many elements."""
+        return [*map(self.code, values)]
 
     def value(self, code: int) -> Any:
         """The element of a number."""
@@ -178,6 +154,14 @@ class Kind:
     def count(self, length: Any) -> int:
         """How many elements a length is."""
         return index(length)
+
+    def distance(self, length: Any) -> Any:
+        """What is added to an element's number that moves by a length."""
+        return self.count(length)
+
+    def line(self, boundaries: Boundaries) -> tuple[Any, Any, Any]:
+        """The numbers that distances are added to, and the least and the greatest one that an end may have."""
+        return boundaries, self.least, self.most + self.ends_at_most
 
     def shown(self, value: Any) -> str:
         """An element in a form that Python reads back."""

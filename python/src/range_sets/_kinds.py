@@ -6,14 +6,17 @@ import reprlib
 from datetime import date, datetime, timedelta
 from ipaddress import IPv4Address, IPv4Network, IPv6Address, IPv6Network
 from operator import index
-from typing import Any, Iterable
 
 from . import _core
 from ._core import Boundaries
 from ._floats import FLOAT, is_numpy_float
 from ._kind import NO_KIND, SIGNED, UNSIGNED, Kind, Now, Whole
-from ._ordered import LONG_ADDRESS, ORDERED, Ordered
+from ._ordered import LONG_ADDRESS, ORDERED, LongAddresses, Ordered
 from ._times import AWARE, DATE, DELTA, NAIVE, Numpys, of_dtype
+from ._typing import TYPE_CHECKING
+
+if TYPE_CHECKING:
+    from typing import Any, Iterable
 
 
 class Addresses(Kind):
@@ -21,6 +24,7 @@ class Addresses(Kind):
 
     def __init__(self) -> None:
         super().__init__("IPv4Address", "an IPv4Address", 0, 2**32 - 1, "addresses")
+        self.ends_at_most = True
 
     def code(self, value: Any) -> int:
         if not isinstance(value, IPv4Address):
@@ -35,7 +39,7 @@ class Addresses(Kind):
         return _core.rank(asked, self.most + 1)
 
 
-ADDRESS = Addresses()
+ADDRESS, ADDRESSES = Addresses(), (Addresses, LongAddresses)
 # What an error says of a float that is no whole number.
 OF_FLOATS = "kind='float' makes a set of floats"
 _KINDS = (SIGNED, UNSIGNED, FLOAT, DATE, DELTA, ADDRESS, LONG_ADDRESS, NAIVE, AWARE, ORDERED)
@@ -165,9 +169,9 @@ def are_alike(kind: Kind, other: Kind, has_any: bool) -> bool:
 def mixed(kind: Kind, other: Kind) -> str:
     if isinstance(kind, Whole) and isinstance(other, Whole):
         return "signed and unsigned numbers don't mix: both sets have to be of one kind"
-    numpys = [it for it in (kind, other) if isinstance(it, Numpys)]
-    in_unit = f"; RangeSet(s, kind={numpys[-1].name!r}) makes such a set of the other" if numpys else ""
-    hint = in_unit if len(numpys) + (NAIVE in (kind, other)) == 2 else ""
+    times = [it for it in (kind, other) if it in (DATE, NAIVE) or isinstance(it, Numpys)]
+    finer = next((it for it in reversed(times) if isinstance(it, Numpys)), NAIVE)
+    hint = f"; RangeSet(s, kind={finer.name!r}) makes such a set of the other" if len(times) == 2 else ""
     return f"two kinds of elements don't mix: one set has the kind {kind.name}, and the other {other.name}{hint}"
 
 

@@ -107,10 +107,18 @@ PyObject *core_range_list(PyObject *module, PyObject *const *args, Py_ssize_t n)
 /* A list, which it takes over, and its kind. */
 PyObject *list_and_kind(PyObject *list, PyObject *kind);
 
+/* Sets whose starts and ends move, and those of long ranges alone. */
+PyObject *core_moved(PyObject *module, PyObject *const *args, Py_ssize_t n);
+PyObject *core_at_least(PyObject *module, PyObject *const *args, Py_ssize_t n);
+
 /* Numbers of floats. */
 PyObject *core_depths(PyObject *module, PyObject *const *args, Py_ssize_t n);
 PyObject *core_mirror(PyObject *module, PyObject *const *args, Py_ssize_t n);
 PyObject *core_lengths_of_floats(PyObject *module, PyObject *object);
+
+/* Numbers of times. */
+PyObject *core_number_of_time(PyObject *module, PyObject *const *args, Py_ssize_t n);
+PyObject *core_numbers_of_times(PyObject *module, PyObject *const *args, Py_ssize_t n);
 
 /* Operations on two lists. */
 PyObject *core_union(PyObject *module, PyObject *const *args, Py_ssize_t n);

@@ -3,29 +3,31 @@
 from __future__ import annotations
 
 from array import array
-from ipaddress import IPv4Network, IPv6Network
-from typing import Any, Generic, Iterable, Iterator, Self, TypeVar, Union, overload
 
 from . import _core
 from ._arrays import asked_of
 from ._core import Boundaries, Steps
 from ._kept import Attributes
-from ._kind import NO_KIND, Array, Element, Kind, Now
+from ._kind import NO_KIND, Kind, Now
 from ._kinds import NETWORKS, agreed, are_of_one, kind_of, kind_of_first, mixed
 from ._numbers import least, most, packed
 from ._ordered import Ordered, list_of, merged
 from ._ranges import AnyRangeSet
 from ._sets import RangeSet
-from ._sources import OneRange, codes_of_range, range_of
+from ._sources import codes_of_range, range_of
+from ._typing import TYPE_CHECKING, E, Generic, V
 
-K = TypeVar("K")
-V = TypeVar("V")
-D = TypeVar("D")
-# A range and its value; the end None says that it has no end.
-Item = tuple[tuple[K, Union[K, None]], V]
-# What stands in the brackets of a change, or of a part.
-Keys = Union[slice, range, IPv4Network, IPv6Network, AnyRangeSet]
+if not TYPE_CHECKING:
+    from ._typing import overload
+else:
+    from typing import Any, Iterable, Iterator, Self, overload
+
+    from ._typing import Array, D, Item, Keys, OneRange
+
 _PARTS = (slice, range, AnyRangeSet, *NETWORKS)
+
+
+OF_NO_SIGN = "expected a map of numbers without a sign, which RangeMap(unsigned=True) makes"
 
 
 class _Nothing:
@@ -38,7 +40,7 @@ class _Nothing:
 NOTHING: Any = _Nothing()
 
 
-class MapQuestions(Attributes, Generic[K, V]):
+class MapQuestions(Attributes, Generic[E, V]):
     """What is asked of a map: of a key, of its ranges in turn, and in which keys it has values."""
 
     __slots__ = _own = ("_steps",)
@@ -82,11 +84,11 @@ class MapQuestions(Attributes, Generic[K, V]):
             return None
 
     @overload
-    def __getitem__(self, key: Keys) -> Self:
+    def __getitem__(self, key: Keys[E]) -> Self:
         ...
 
     @overload
-    def __getitem__(self, key: K) -> V:
+    def __getitem__(self, key: E) -> V:
         ...
 
     def __getitem__(self, key: Any) -> Any:
@@ -97,7 +99,7 @@ class MapQuestions(Attributes, Generic[K, V]):
             raise KeyError(key)
         return found
 
-    def _part(self, keys: Keys) -> Self:
+    def _part(self, keys: Any) -> Self:
         ranges, kind = self._ranges(keys, self._kind)
         self._check_kind(kind)
         if kind.is_ordered:
@@ -105,29 +107,47 @@ class MapQuestions(Attributes, Generic[K, V]):
             return self._with_steps(steps.part(list_of(both)))
         return self._with_steps(self._steps.part(ranges))
 
+    def part(self, start: E | None, end: E | None) -> Self:
+        """Another map with the values of the keys from a start up to, not including, an end, as `m[start:end]` is.
+
+        Cost: a search, and one for each range there.
+
+        >>> RangeMap([((0, 10), "low"), ((20, 30), "high")]).part(5, 25)
+        RangeMap([((5, 10), 'low'), ((20, 25), 'high')])
+        """
+        return self._part(slice(start, end))
+
     @overload
-    def get(self, key: Array, default: Any = None) -> Any:
+    def get(self, key: Array | list[E], default: Any = None, *, dtype: Any = None) -> Any:
         ...
 
     @overload
-    def get(self, key: K) -> V | None:
+    def get(self, key: E) -> V | None:
         ...
 
     @overload
-    def get(self, key: K, default: D) -> V | D:
+    def get(self, key: E, default: D) -> V | D:
         ...
 
-    def get(self, key: Any, default: Any = None) -> Any:
-        """The value of a key, or the default if it has none; of a numpy array an array of these.
+    def get(self, key: Any, default: Any = None, *, dtype: Any = None) -> Any:
+        """The value of a key, or the default if it has none; of a list or an array of keys an array of these, of objects or of the type
+        of numpy's that is given.
 
         Cost: a search for each.
 
         >>> RangeMap([((0, 10), "low")]).get(10, "high")
         'high'
+        >>> import numpy
+        >>> RangeMap([((0, 10), 1.5)]).get([5, 10], 0, dtype=float).tolist()
+        [1.5, 0.0]
         """
-        if getattr(key, "ndim", 0):
-            return self._found_each(key, default)
-        return self._found(key, default)
+        if getattr(key, "ndim", 0) or type(key) is list:
+            found = self._found_each(key, default)
+            return found if dtype is None else found.astype(dtype)
+        if dtype is not None:
+            raise TypeError("expected a list or an array of keys, of whose values dtype is the type")
+        code = self._code(key)
+        return default if code is None else self._steps.get(code, default)
 
     def _found_each(self, keys: Any, default: Any) -> Any:
         import numpy
@@ -144,10 +164,10 @@ class MapQuestions(Attributes, Generic[K, V]):
         code = self._code(key)
         return default if code is None else self._steps.get(code, default)
 
-    def __contains__(self, key: Element) -> bool:
+    def __contains__(self, key: E) -> bool:
         return self._found(key, NOTHING) is not NOTHING
 
-    def range_at(self, key: K) -> Item[K, V] | None:
+    def range_at(self, key: E) -> Item[E, V] | None:
         """The longest range around a key whose keys have its value, and that; None if it has none.
 
         Cost: a search.
@@ -166,11 +186,12 @@ class MapQuestions(Attributes, Generic[K, V]):
         """The boundaries of some keys, and their kind."""
         if isinstance(keys, AnyRangeSet):
             if kind is NO_KIND and keys.unsigned:
-                raise TypeError("expected a map of numbers without a sign, which RangeMap(unsigned=True) makes")
+                raise TypeError(OF_NO_SIGN)
             return agreed((kind.nothing, kind), keys._now)[1:]
         if isinstance(keys, slice) and keys.step is None:
             return range_of(keys.start, keys.stop, kind)
-        if isinstance(keys, (range, *NETWORKS)):
+        # psycopg has such ranges, and pandas such intervals.
+        if isinstance(keys, (range, *NETWORKS)) or hasattr(keys, "lower_inc") or (hasattr(keys, "closed") and not hasattr(keys, "__len__")):
             return range_of(keys, ..., kind)
         found = kind_of(keys)
         if found is not None:
@@ -184,10 +205,10 @@ class MapQuestions(Attributes, Generic[K, V]):
     def __len__(self) -> int:
         return len(self._steps)
 
-    def __iter__(self) -> Iterator[tuple[K, K | None]]:
+    def __iter__(self) -> Iterator[tuple[E, E | None]]:
         return self._steps.keys(None, None)
 
-    def keys(self) -> Iterator[tuple[K, K | None]]:
+    def keys(self) -> Iterator[tuple[E, E | None]]:
         """The ranges, from the lowest on, over which the map iterates too.
 
         Cost: goes over all ranges.
@@ -207,7 +228,7 @@ class MapQuestions(Attributes, Generic[K, V]):
         """
         return self._steps.values(None, None)
 
-    def items(self) -> Iterator[Item[K, V]]:
+    def items(self) -> Iterator[Item[E, V]]:
         """The ranges, from the lowest on, each with its value.
 
         Cost: goes over all ranges.
@@ -217,7 +238,7 @@ class MapQuestions(Attributes, Generic[K, V]):
         """
         return self._steps.items(None, None)
 
-    def span(self) -> tuple[K, K | None] | None:
+    def span(self) -> tuple[E, E | None] | None:
         """From the start of the first range to the end of the last one, or None if no key has a value.
 
         Cost: two searches.
@@ -225,23 +246,17 @@ class MapQuestions(Attributes, Generic[K, V]):
         >>> RangeMap([((0, 10), "low"), ((20, 30), "high")]).span()
         (0, 30)
         """
-        return self._kind.pair(self._span())
-
-    def _span(self) -> tuple[int, int | None] | None:
-        unsigned = self._kind.unsigned
-        first = self._steps.next(least(unsigned))
-        start, _, value = self._steps.range_at(most(unsigned), NOTHING)
-        return None if first is None else (first[0], start if value is NOTHING else None)
+        return self._kind.pair(self._steps.span())
 
     @overload
-    def overlapping(self, start: OneRange) -> list[Item[K, V]]:
+    def overlapping(self, start: OneRange[E]) -> list[Item[E, V]]:
         ...
 
     @overload
-    def overlapping(self, start: K | None, end: K | None) -> list[Item[K, V]]:
+    def overlapping(self, start: E | None, end: E | None) -> list[Item[E, V]]:
         ...
 
-    def overlapping(self, start: Any, end: Any = ...) -> list[Item[K, V]]:
+    def overlapping(self, start: Any, end: Any = ...) -> list[Item[E, V]]:
         """The ranges that have a key from a start up to, not including, an end, each with its value. They aren't cut, as those of
         `m[start:end]` are. It takes the two, a pair, a `range` or a key.
 
@@ -259,7 +274,7 @@ class MapQuestions(Attributes, Generic[K, V]):
             self._check_kind(kind)
         return [*self._steps.items(*_ends(wanted))] if wanted else []
 
-    def gaps(self, start: Element | None = None, end: Element | None = None) -> RangeSet:
+    def gaps(self, start: E | None = None, end: E | None = None) -> RangeSet[E]:
         """The keys from `start` up to, not including, `end` that have no value.
 
         Cost: a search, and one for each range there.
@@ -277,7 +292,7 @@ class MapQuestions(Attributes, Generic[K, V]):
             wanted = _core.difference(wanted, self._steps.domain(*_ends(wanted)))
         return RangeSet._over(wanted, kind)
 
-    def domain(self) -> RangeSet:
+    def domain(self) -> RangeSet[E]:
         """The keys that have a value.
 
         Cost: goes over all ranges.
@@ -287,7 +302,7 @@ class MapQuestions(Attributes, Generic[K, V]):
         """
         return RangeSet._over(self._steps.domain(None, None), self._kind)
 
-    def find(self, value: V) -> RangeSet:
+    def find(self, value: V) -> RangeSet[E]:
         """The keys that have this value, or an equal one of its type.
 
         Cost: goes over all ranges, and an `==` for each object.
@@ -297,9 +312,9 @@ class MapQuestions(Attributes, Generic[K, V]):
         """
         return RangeSet._over(self._steps.find(value), self._kind)
 
-    def _last(self, count: int) -> list[Item[K, V]]:
+    def _last(self, count: int) -> list[Item[E, V]]:
         """The last ranges with their values, of which there are as many."""
-        found: list[Item[K, V]] = []
+        found: list[Item[E, V]] = []
         key = most(self._kind.unsigned)
         while len(found) < count:
             start, end, value = self._steps.range_at(key, NOTHING)

@@ -16,20 +16,21 @@ bool ends_below(const Steps *self, const Stretch *it, Range range)
 }
 
 /* One by one at first, since most walks are short. */
-static void read_some(const Steps *self, Walk *walk)
+static void read_some(Steps *self, Walk *walk)
 {
     uint64_t from = walk->left.start;
     size_t room = walk->read < FEW ? 1 : SOME;
+    walk->at = walk->len = 0;
+    if (!is_built(self)) return;
     if (room == 1) walk->len = self->is_signed ? range_map_i64_next(self->handle.i64, (int64_t)from, walk->some.i64)
                                                : range_map_u64_next(self->handle.u64, from, walk->some.u64);
     else walk->len = self->is_signed ? range_map_i64_next_ranges(self->handle.i64, (int64_t)from, walk->some.i64, room)
                                      : range_map_u64_next_ranges(self->handle.u64, from, walk->some.u64, room);
     walk->read++;
-    walk->at = 0;
     walk->changes = self->changes;
 }
 
-bool step(const Steps *self, Walk *walk, Stretch *it)
+bool step_on(Steps *self, Walk *walk, Stretch *it)
 {
     if (!walk->is_done && (walk->at == walk->len || walk->changes != self->changes)) read_some(self, walk);
     walk->is_done = walk->is_done || walk->at == walk->len;
@@ -60,7 +61,7 @@ static PyObject *in_python(const Steps *self, const Stretch *it, PyObject *nothi
 
 static bool read_key(Steps *self, PyObject *const *args, Py_ssize_t n, Py_ssize_t wanted, uint64_t *key)
 {
-    return has_arguments(n, wanted) && read_number(args[0], self->is_signed, key) && settle(self);
+    return has_arguments(n, wanted) && read_number(args[0], self->is_signed, key) && settle(self) && is_built(self);
 }
 
 size_t number_at(const Steps *self, uint64_t key)
@@ -93,13 +94,20 @@ static PyObject *steps_range_at(Steps *self, PyObject *const *args, Py_ssize_t n
     return in_python(self, &it, args[1]);
 }
 
-/* The same of the first key at or above one that has a value, or None. */
-static PyObject *steps_next(Steps *self, PyObject *const *args, Py_ssize_t n)
+/* The start of the first range and the end of the last, or None if there is none. An end None is no end. */
+static PyObject *steps_span(Steps *self, PyObject *unused)
 {
-    Stretch it;
-    Walk walk = {.left = ALL(self)};
-    if (!read_key(self, args, n, 1, &walk.left.start)) return NULL;
-    return step(self, &walk, &it) ? in_python(self, &it, NULL) : Py_NewRef(Py_None);
+    Stretch first, last;
+    if (!settle(self)) return NULL;
+    Walk walk;
+    begin_walk(self, ALL(self), &walk);
+    if (!step(self, &walk, &first)) Py_RETURN_NONE;
+    if (self->has_list) read_listed(self, self->len - 1, &last);
+    else last = stretch_at(self, MOST(self));
+    /* Above all ranges is a stretch without a value. */
+    uint64_t end = last.has_value ? last.end : last.start;
+    bool has_end = last.has_end || !last.has_value;
+    return Py_BuildValue("(NN)", as_python(first.start, self->is_signed), has_end ? as_python(end, self->is_signed) : Py_NewRef(Py_None));
 }
 
 /* Writes the value of each key of an array, or what is given for those that have none or are said to be gone, into an array of objects.
@@ -114,7 +122,7 @@ static PyObject *steps_get_each(Steps *self, PyObject *const *args, Py_ssize_t n
         PyObject **found = out.buf;
         const char *gone = PyBytes_AS_STRING(args[1]);
         fits = (size_t)PyBytes_GET_SIZE(args[1]) == keys.len && keys.is_signed == self->is_signed && strcmp(out.format, "O") == 0
-               && (size_t)out.len == keys.len * sizeof *found && settle(self);
+               && (size_t)out.len == keys.len * sizeof *found && settle(self) && is_built(self);
         for (size_t i = 0; fits && i < keys.len; i++) {
             PyObject *before = found[i];
             found[i] = value_or(self, gone[i] ? NONE : number_at(self, ((const uint64_t *)keys.items)[i]), args[2]);
@@ -137,12 +145,14 @@ static PyObject *steps_kind(Steps *self, void *unused)
     return Py_NewRef(self->kind);
 }
 
-/* The library keeps a number and a value for each end, and one for both of ranges that touch. */
+/* A list has both ends and a value of each range; the library keeps a number and a value for each end, and one for both of ranges that
+ * touch. */
 static PyObject *steps_sizeof(Steps *self, PyObject *unused)
 {
     const Values *values = &self->values;
+    size_t of_each = (self->has_list ? 24 : 0) + (self->handle.u64.at == NULL ? 0 : 2 * 24);
     return PyLong_FromSize_t(sizeof *self + values->room * sizeof *values->places + values->numbers.room * sizeof *values->numbers.slots
-                             + 2 * self->len * 24);
+                             + self->len * of_each);
 }
 
 /* ---- New maps ---- */
@@ -158,45 +168,38 @@ void free_handle(Steps *self)
     else range_map_u64_free(&self->handle.u64);
 }
 
-/* A map without a handle yet. */
-static Steps *empty_steps(PyTypeObject *type, bool is_signed)
+Steps *new_steps(PyTypeObject *type, bool is_signed)
 {
     Steps *self = (Steps *)type->tp_alloc(type, 0);
     if (self == NULL) return NULL;
     self->is_signed = is_signed;
+    self->has_list = true;
     clear_values(&self->values);
     return self;
-}
-
-/* The map, or an error if its handle was refused memory. */
-static Steps *with_handle(Steps *self, range_set_status status)
-{
-    if (status == RANGE_SET_DONE) return self;
-    Py_DECREF(self);
-    raise_status(status, 0);
-    return NULL;
-}
-
-Steps *new_steps(PyTypeObject *type, bool is_signed)
-{
-    Steps *self = empty_steps(type, is_signed);
-    return self == NULL ? NULL : with_handle(self, make_handle(self));
 }
 
 /* Another map with the same values. */
 static PyObject *steps_copy(Steps *self, PyObject *unused)
 {
     /* This may run the collector, and by it a change. */
-    Steps *made = empty_steps(Py_TYPE(self), self->is_signed);
+    Steps *made = new_steps(Py_TYPE(self), self->is_signed);
     if (made == NULL || !settle(self) || !copy_values(&self->values, &made->values)) {
         Py_XDECREF(made);
         return NULL;
     }
     made->kind = Py_NewRef(self->kind);
     made->is_plain = self->is_plain;
-    made->len = self->len;
-    return (PyObject *)with_handle(made, self->is_signed ? range_map_i64_copy(self->handle.i64, &made->handle.i64)
-                                                         : range_map_u64_copy(self->handle.u64, &made->handle.u64));
+    range_set_status status = RANGE_SET_DONE;
+    bool fits = !self->has_list || copy_list(self, made);
+    made->has_list = self->has_list;
+    if (self->handle.u64.at != NULL) status = self->is_signed ? range_map_i64_copy(self->handle.i64, &made->handle.i64)
+                                                              : range_map_u64_copy(self->handle.u64, &made->handle.u64);
+    if (fits && status == RANGE_SET_DONE) {
+        made->len = self->len;
+        return (PyObject *)made;
+    }
+    Py_DECREF(made);
+    return fits ? raise_status(status, 0) : NULL;
 }
 
 /* ---- The type ---- */
@@ -218,10 +221,12 @@ static int steps_traverse(Steps *self, visitproc visit, void *arg)
     return visit_values(&self->values, visit, arg);
 }
 
-/* Leaves a map that has nothing, and takes nothing more. */
+/* Leaves a map that has nothing. */
 static int steps_clear(Steps *self)
 {
     free_handle(self);
+    forget_list(self);
+    self->has_list = true;
     forget_undo(self);
     self->len = 0;
     self->changes++;
@@ -245,9 +250,10 @@ static void steps_dealloc(Steps *self)
 #define METHOD(name) {#name, (PyCFunction)(void (*)(void))steps_##name, METH_FASTCALL, NULL}
 
 static PyMethodDef methods[] = {
-    METHOD(change), METHOD(get), METHOD(get_each), METHOD(range_at), METHOD(next), METHOD(domain),
+    METHOD(change), METHOD(get), METHOD(get_each), METHOD(range_at), METHOD(domain),
     METHOD(keys), METHOD(values), METHOD(items), METHOD(combine),
     {"copy", (PyCFunction)steps_copy, METH_NOARGS, NULL},
+    {"span", (PyCFunction)steps_span, METH_NOARGS, NULL},
     {"ends_and_values", (PyCFunction)steps_ends_and_values, METH_NOARGS, NULL},
     {"equals", (PyCFunction)steps_equals, METH_O, NULL},
     {"find", (PyCFunction)steps_find, METH_O, NULL},

@@ -2,36 +2,42 @@
 
 from __future__ import annotations
 
-import copy
 import reprlib
 import sys
 from array import array
-from ipaddress import IPv4Network, IPv6Network
+from collections.abc import Mapping
 from itertools import islice
-from typing import Any, Callable, Iterable, Mapping, Self, TypeVar, Union
 
 from . import _core
 from ._core import Steps
 from ._depths import ends_of_sets
 from ._kept import MANY, SHOWN
-from ._kind import NO_KIND, SIGNED, Array, Kind, KindLike
+from ._kind import NO_KIND, SIGNED, Kind
 from ._kinds import are_alike, are_of_one, given_kind, kind_of_pickle
-from ._map_questions import NOTHING, Keys, MapQuestions, numbered_with
+from ._map_columns import Columns, columns_of_map
+from ._map_questions import NOTHING, numbered_with
+from ._map_tables import MapTables
 from ._numbers import in_this_order, least, packed
 from ._ordered import ORDERED
-from ._ranges import AnyRangeSet
-from ._sources import Source, items_of
+from ._sets import RangeSet
+from ._sources import items_of
+from ._typing import TYPE_CHECKING, E, V
 
-K = TypeVar("K")
-V = TypeVar("V")
-D = TypeVar("D")
-M = TypeVar("M", bound="RangeMap[Any, Any]")
-# What a map is made of.
-Pair = tuple[Union[K, None], Union[K, None]]
-Items = Union["RangeMap[K, V]", Mapping[Any, V], Iterable[tuple[Union[Pair[K], list[K], range, IPv4Network, IPv6Network, AnyRangeSet], V]]]
+if not TYPE_CHECKING:
+    from ._typing import overload
+else:
+    from typing import Any, Callable, Iterable, Self, TypeVar, overload
+
+    from ._ranges import AnyRangeSet
+    from ._typing import Array, D, Items, Keys, KindLike, Source
+
+    M = TypeVar("M", bound="RangeMap[Any, Any]")
+
+# What an error says that it is made of.
+_WANTED = "pairs of a range and a value", "t[['start', 'end', 'value']] has the range and the value of each row"
 
 
-class RangeMap(MapQuestions[K, V]):
+class RangeMap(MapTables[E, V]):
     """A map that gives ranges of whole numbers, times or other elements values. It is changed in place, and has no hash.
 
     A key has the value of the last range that was put around it, as a dict has it, or none. Ranges that touch are one if they have one
@@ -51,13 +57,15 @@ class RangeMap(MapQuestions[K, V]):
     >>> bookings[8:11]
     RangeMap([((8, 9), 'Eve'), ((9, 10), 'Ada'), ((10, 11), 'Eve')])
 
-    It is made of pairs of a range or set and a value, of a dict of these, or of another map; where ranges overlap, the later one's
-    value holds. Keys are of one kind, as those of a `RangeSet`, and the length is the number of ranges. In brackets a key has a value,
-    and a slice, a `range`, a network or a set is a part: it is changed, or read as another map.
+    It is made of pairs of a range or set and a value, of a dict of these, or of another map; of a data frame of pandas with columns of
+    starts, ends and values, or of a series by intervals. Where ranges overlap, the later one's value holds. Keys are of one kind, as those
+    of a `RangeSet`, and the length is the number of ranges. In brackets a key has a value, and a slice, a `range`, a network or a set is a
+    part: it is changed, or read as another map.
 
-    Calls that touch a few ranges take some microseconds also of a million, and `items`, `domain`, `find` and `==` go over all. Of keys
-    that sort, as texts, each change and each part goes over all. To
-    checkers of types it is a `RangeMap[K, V]`. They refuse slices of dates: `put` and `remove` do the same.
+    Calls that touch a few ranges take some microseconds also of a million, and `items`, `domain`, `find` and `==` go over all. So does the
+    first search or change of a map that was made of ranges in order, as of a copy or a pickle. Of keys
+    that sort, as texts, each change and each part goes over all. To checkers of types it is a `RangeMap[E, V]`. They refuse slices of
+    dates: `put`, `remove` and `part` do the same.
 
     A loop over a map may give the ranges that it reads other values. One that leaves it more or fewer ranges raises a RuntimeError, as
     over a dict: go over `list(m.items())` then. Over a map whose keys sort it goes on over what the map was.
@@ -69,20 +77,30 @@ class RangeMap(MapQuestions[K, V]):
     __module__ = "range_sets"
     __hash__ = None  # type: ignore[assignment]
 
-    def __init__(self, items: Items[K, V] = (), *, unsigned: bool | None = None, kind: KindLike = None) -> None:
+    @overload
+    def __init__(
+        self, items: Iterable[tuple[tuple[E, E | None], V]] = (), *, unsigned: bool | None = None, kind: KindLike[E] = None
+    ) -> None:
+        ...
+
+    @overload
+    def __init__(self, items: Items[E, V], *, unsigned: bool | None = None, kind: KindLike[E] = None) -> None:
+        ...
+
+    def __init__(self, items: Any = (), *, unsigned: bool | None = None, kind: KindLike[E] = None) -> None:
         found = given_kind(kind, unsigned) or NO_KIND
         self._steps = Steps(found, found.unsigned)
         self.update(items)
 
     # ---- Changes ----
 
-    def __setitem__(self, keys: Keys, value: V) -> None:
+    def __setitem__(self, keys: Keys[E], value: V) -> None:
         self._change(keys, value)
 
-    def __delitem__(self, keys: Keys) -> None:
+    def __delitem__(self, keys: Keys[E]) -> None:
         self._change(keys)
 
-    def put(self, start: K | None, end: K | None, value: V) -> None:
+    def put(self, start: E | None, end: E | None, value: V) -> None:
         """Gives the keys from a start up to, not including, an end a value, as `m[start:end] = value` does.
 
         Cost: a search, and one for each range that gives way.
@@ -94,7 +112,7 @@ class RangeMap(MapQuestions[K, V]):
         """
         self._change(slice(start, end), value)
 
-    def remove(self, start: K | None, end: K | None) -> None:
+    def remove(self, start: E | None, end: E | None) -> None:
         """Takes the values of the keys from a start up to, not including, an end away, as `del m[start:end]` does.
 
         Cost: a search, and one for each range that gives way.
@@ -106,7 +124,7 @@ class RangeMap(MapQuestions[K, V]):
         """
         self._change(slice(start, end))
 
-    def pop(self, key: K, default: D = NOTHING) -> V | D:
+    def pop(self, key: E, default: D = NOTHING) -> V | D:
         """Takes away the longest range around a key whose keys have its value, and returns the value. For a key that has none it is
         the default, or a KeyError.
 
@@ -123,6 +141,24 @@ class RangeMap(MapQuestions[K, V]):
         if default is NOTHING:
             raise KeyError(key)
         return default
+
+    def modify(self, part: Keys[E], function: Callable[[V], V], missing: V = NOTHING) -> None:
+        """Gives the keys in a part what a function makes of their values. Keys that have none get none, or with `missing` what it makes
+        of this. A part is what stands in brackets: a slice, a `range`, a network or a set.
+
+        The function runs once for each object. What it raises is raised, and the map doesn't change.
+
+        Cost: that of `m[part]` and of `update`.
+
+        >>> m = RangeMap([((0, 10), 1)])
+        >>> m.modify(range(5, 15), lambda count: count + 1, 0)
+        >>> m
+        RangeMap([((0, 5), 1), ((5, 10), 2), ((10, 15), 1)])
+        """
+        now: RangeMap[Any, Any] = self._part(part)
+        keys = now.domain() if missing is NOTHING else RangeSet._over(*self._ranges(part, self._kind))
+        all_of_them: RangeMap[Any, Any] = RangeMap([(keys, None)], kind=keys.kind)
+        self.update(RangeMap.combine(now, all_of_them, lambda value, _: function(value), missing))
 
     def _change(self, keys: Any, *values: V) -> None:
         """Gives keys a value, or takes theirs away."""
@@ -145,7 +181,7 @@ class RangeMap(MapQuestions[K, V]):
         self._steps = made
         return True
 
-    def update(self, items: Items[K, V]) -> None:
+    def update(self, items: Items[E, V]) -> None:
         """Puts ranges with their values in, one after the other; or those of another map. If one raises an error, none is put in.
 
         Cost: that of `put` for each.
@@ -157,7 +193,7 @@ class RangeMap(MapQuestions[K, V]):
         """
         # All are read before the first change.
         pairs = items.items() if isinstance(items, (RangeMap, Mapping)) else items
-        given = items_of(pairs, "pairs of a range and a value", "zip(zip(t['start'], t['end']), t['value']) has them")
+        given = [*pairs] if type(pairs) is list else columns_of_map(pairs) or items_of(pairs, *_WANTED)
         done = False
         while not done:
             steps = self._steps
@@ -168,9 +204,14 @@ class RangeMap(MapQuestions[K, V]):
             else:
                 done = steps.change(ends, values, known, kind)
 
-    def _read(self, given: list[tuple[Any, V]], kind: Kind) -> tuple[bytes, tuple[V, ...], Kind]:
+    def _read(self, given: list[tuple[Any, V]] | Columns, kind: Kind) -> tuple[bytes, tuple[V, ...], Kind]:
         """The numbers of the ends of ranges, in turn, with their values, and their kind. The least number as an end says that there is
         none."""
+        if isinstance(given, Columns):
+            numbers = given.numbers(kind)
+            if numbers is not None:
+                return numbers
+            given = given.pairs()
         found = _core.ends_and_values(given, kind.unsigned) if kind.is_plain or kind is NO_KIND else None
         if found is not None:
             return *found, SIGNED if kind is NO_KIND else kind
@@ -210,8 +251,18 @@ class RangeMap(MapQuestions[K, V]):
 
     # ---- Many sets, two maps ----
 
+    @overload
     @staticmethod
-    def depth(sets: Iterable[Source] | Array, *, unsigned: bool | None = None, kind: KindLike = None) -> RangeMap[Any, int]:
+    def depth(sets: Iterable[AnyRangeSet[E]], *, unsigned: bool | None = None, kind: KindLike[E] = None) -> RangeMap[E, int]:
+        ...
+
+    @overload
+    @staticmethod
+    def depth(sets: Iterable[Source[E]] | Array, *, unsigned: bool | None = None, kind: KindLike[E] = None) -> RangeMap[E, int]:
+        ...
+
+    @staticmethod
+    def depth(sets: Any, *, unsigned: bool | None = None, kind: KindLike[E] = None) -> RangeMap[E, int]:
         """How many of some sets have each key; a key that none has gets no value. A set may be a pair, or anything that makes one. Of a
         table, as a numpy array, a data frame or intervals of pandas, each row is a set.
 
@@ -221,11 +272,11 @@ class RangeMap(MapQuestions[K, V]):
         RangeMap([((0, 3), 1), ((3, 4), 2), ((4, 5), 3), ((5, 6), 2), ((6, 9), 1), ((20, None), 1)])
         """
         numbers, starts, found = ends_of_sets(sets, given_kind(kind, unsigned))
-        made: RangeMap[Any, int] = RangeMap._empty(found)
+        made: RangeMap[E, int] = RangeMap._empty(found)
         made._steps.change(*_core.depths(numbers, starts))
         return made
 
-    def combine(self, other: RangeMap[K, V], how: Callable[[V, V], V], missing: V = NOTHING) -> RangeMap[K, V]:
+    def combine(self, other: RangeMap[E, V], how: Callable[[V, V], V], missing: V = NOTHING) -> RangeMap[E, V]:
         """The map of what `how` makes of the values of both maps. Where one alone has a value, it stays, or with `missing` this stands
         for the other.
 
@@ -280,6 +331,8 @@ class RangeMap(MapQuestions[K, V]):
     __copy__ = copy
 
     def __deepcopy__(self, memo: Any) -> Self:
+        import copy
+
         ends, values = self._steps.ends_and_values()
         # A value may refer to the map, whose copy is the one that is begun.
         made = memo[id(self)] = self._empty(self._kind)
@@ -293,6 +346,11 @@ class RangeMap(MapQuestions[K, V]):
         first, last = (repr([*it])[1:-1] for it in (islice(self.items(), SHOWN), self._last(SHOWN)))
         return self._shown(f"[{first}, ..., {last}]", self._kind)
 
+    def _repr_svg_(self) -> str:
+        from . import _svg
+
+        return _svg.draw_map(self._steps)
+
     def __sizeof__(self) -> int:
         return object.__sizeof__(self) + self._steps.__sizeof__()
 
@@ -303,7 +361,7 @@ class RangeMap(MapQuestions[K, V]):
         return _begun, (type(self), self._kind.pickled), state, None, None, _filled
 
 
-def _begun(cls: type[M], name: KindLike) -> M:
+def _begun(cls: type[M], name: KindLike[Any]) -> M:
     """The map of a pickle, before it has its values."""
     return cls._empty(kind_of_pickle(name))
 
@@ -313,17 +371,17 @@ def _filled(made: M, state: tuple[bytes, tuple[Any, ...], str, Any]) -> M:
     ends, values, order, attributes = state
     kind = made._kind
     made._steps.change(in_this_order(ends, order, kind.unsigned), values)
-    if not all(kind is not NO_KIND and (it is None or kind.least <= it <= kind.most) for it in made._span() or ()):
+    if not all(kind is not NO_KIND and (it is None or kind.least <= it <= kind.most) for it in made._steps.span() or ()):
         raise ValueError(f"the bytes are no map of the kind {kind.name}")
     return made._with(attributes)
 
 
-def _remade(cls: type[M], ends: bytes, values: tuple[Any, ...], name: KindLike, order: str) -> M:
+def _remade(cls: type[M], ends: bytes, values: tuple[Any, ...], name: KindLike[Any], order: str) -> M:
     """The map of a pickle that was made with its values."""
     return _filled(_begun(cls, name), (ends, values, order, None))
 
 
-def _restored(cls: type[M], items: list[Any], name: KindLike) -> M:
+def _restored(cls: type[M], items: list[Any], name: KindLike[Any]) -> M:
     """The map of a pickle by version 0.3."""
     made = _begun(cls, name)
     try:

@@ -4,7 +4,11 @@ from __future__ import annotations
 
 import sys
 from array import array
-from typing import Iterable, Literal
+
+from ._typing import TYPE_CHECKING
+
+if TYPE_CHECKING:
+    from typing import Iterable, Literal
 
 
 def typecode_of(unsigned: bool) -> Literal["q", "Q"]:

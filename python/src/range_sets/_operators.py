@@ -2,20 +2,21 @@
 
 from __future__ import annotations
 
-from typing import TYPE_CHECKING, Any, Callable, Self
-
 from . import _core
 from ._core import Boundaries
 from ._kept import Kept
 from ._kind import Kind, Now
 from ._kinds import agreed, are_alike, whole
 from ._ordered import is_same
+from ._typing import TYPE_CHECKING, E
 
 if TYPE_CHECKING:
+    from typing import Any, Callable, Self
+
     from ._ranges import AnyRangeSet
 
 
-class Operators(Kept):
+class Operators(Kept[E]):
     """What Python writes between two sets or before one."""
 
     __slots__ = ()
@@ -23,6 +24,18 @@ class Operators(Kept):
     if TYPE_CHECKING:
 
         def __len__(self) -> int:
+            ...
+
+        def __or__(self, other: AnyRangeSet[E]) -> Self:
+            ...
+
+        def __and__(self, other: AnyRangeSet[E]) -> Self:
+            ...
+
+        def __sub__(self, other: AnyRangeSet[E]) -> Self:
+            ...
+
+        def __xor__(self, other: AnyRangeSet[E]) -> Self:
             ...
 
     # Else numpy would answer `set | array` by the bits of the boundaries, and `numpy.isin(array, set)` by which elements are boundaries.
@@ -37,7 +50,7 @@ class Operators(Kept):
         left, right, kind = agreed(self._now, other)
         return self._over(call(left, right), kind)
 
-    def _both(self, other: Operators) -> tuple[Boundaries, Boundaries, Kind]:
+    def _both(self, other: Operators[E]) -> tuple[Boundaries, Boundaries, Kind]:
         """At least the ranges of both sets that have elements of the other, and the kind of both. The set of more ranges is read beside the
         other one alone; of values that sort the left one is read first, whose own stay."""
         if len(self) < len(other):
@@ -49,21 +62,21 @@ class Operators(Kept):
 
     # What `|`, `&`, `-` and `^` do if one of the sets changes, or their kinds differ.
 
-    def _union(self, other: AnyRangeSet) -> Self:
+    def _union(self, other: AnyRangeSet[E]) -> Self:
         return self._combined(_core.union, other._now)
 
-    def _intersection(self, other: AnyRangeSet) -> Self:
+    def _intersection(self, other: AnyRangeSet[E]) -> Self:
         left, right, kind = self._both(other)
         return self._over(_core.intersection(left, right), kind)
 
-    def _difference(self, other: AnyRangeSet) -> Self:
+    def _difference(self, other: AnyRangeSet[E]) -> Self:
         now = self._now
         if now[1].is_ordered:
             return self._combined(_core.difference, other._now)
         right, left, kind = other._beside(now)
         return self._over(_core.difference(left, right), kind)
 
-    def _symmetric_difference(self, other: AnyRangeSet) -> Self:
+    def _symmetric_difference(self, other: AnyRangeSet[E]) -> Self:
         return self._combined(_core.symmetric_difference, other._now)
 
     def __invert__(self) -> Self:
@@ -87,10 +100,10 @@ class Operators(Kept):
 
     # For `>=` and `>` Python asks the other set by these.
 
-    def __le__(self, other: AnyRangeSet) -> bool:
+    def __le__(self, other: AnyRangeSet[E]) -> bool:
         return other._has(self._now) if isinstance(other, Operators) else NotImplemented
 
-    def __lt__(self, other: AnyRangeSet) -> bool:
+    def __lt__(self, other: AnyRangeSet[E]) -> bool:
         if not isinstance(other, Operators):
             return NotImplemented
         if len(self) >= len(other):

@@ -7,11 +7,14 @@ from bisect import bisect_left, bisect_right
 from ipaddress import IPv6Address
 from itertools import chain, pairwise, zip_longest
 from operator import index
-from typing import Any, Iterable, Sequence
 
 from . import _core
 from ._core import Boundaries
 from ._kind import Kind, Now
+from ._typing import TYPE_CHECKING
+
+if TYPE_CHECKING:
+    from typing import Any, Iterable, Sequence
 
 
 class Ordered(Kind):
@@ -35,7 +38,9 @@ class Ordered(Kind):
 
     def over(self, keys: Sequence[Any]) -> Ordered:
         """The kind of sorted boundaries."""
-        return type(self)(keys)
+        made = object.__new__(type(self))
+        made.__dict__.update(self.__dict__, keys=keys, most=len(keys) - 1)
+        return made
 
     def key(self, value: Any) -> Any:
         """What stands for a value."""
@@ -121,6 +126,9 @@ class Ordered(Kind):
     def count(self, length: Any) -> int:
         raise TypeError(f"{self.uncounted}, so no number of them fits anywhere: look at gaps()")
 
+    def distance(self, length: Any) -> Any:
+        raise TypeError(f"{self.plural} have no lengths")
+
     @property
     def pickled(self) -> Any:
         return self.name, tuple(self.keys)
@@ -137,6 +145,7 @@ class LongAddresses(Ordered):
 
     def __init__(self, keys: Sequence[int] = ()) -> None:
         super().__init__(keys, "IPv6Address", "an IPv6Address", "IPv6 addresses")
+        self.ends_at_most = True
 
     def key(self, value: Any) -> int:
         if not isinstance(value, IPv6Address):
@@ -150,7 +159,8 @@ class LongAddresses(Ordered):
         return IPv6Address(0)
 
     def one(self, value: Any) -> tuple[Any, Any]:
-        return value, None if self.key(value) == _MOST else value + 1
+        self.key(value)
+        return value, after(value)
 
     def covered(self, asked: Any) -> int:
         ends = self.kept(asked)
@@ -159,6 +169,12 @@ class LongAddresses(Ordered):
 
     def count(self, length: Any) -> int:
         return index(length)
+
+    def distance(self, length: Any) -> int:
+        return index(length)
+
+    def line(self, boundaries: Boundaries) -> tuple[Sequence[int], int, int]:
+        return self.kept(boundaries), 0, _MOST + 1
 
     def of_pickle(self, keys: Any) -> Ordered:
         if type(keys) is not tuple or not all(type(it) is int and 0 <= it <= _MOST for it in keys):
@@ -170,15 +186,23 @@ _MOST = 2**128 - 1
 ORDERED, LONG_ADDRESS = Ordered(), LongAddresses()
 
 
+def after(address: Any) -> Any:
+    """The next address, or None after the greatest."""
+    return None if int(address) + 1 == 2**address.max_prefixlen else address + 1
+
+
 def is_same(mine: Boundaries, kind: Any, others: Boundaries, other: Any) -> bool:
     """Whether two sets have equal boundaries."""
     return kind.name == other.name and [*kind.kept(mine)] == [*other.kept(others)]
 
 
-def first_gap(ends: list[IPv6Address], count: int) -> IPv6Address | None:
-    """The start of the first range that has this many addresses."""
-    found = (start for start, end in zip_longest(ends[::2], ends[1::2]) if (_MOST + 1 if end is None else int(end)) - int(start) >= count)
-    return next(found, None)
+def first_in(ends: list[IPv6Address], count: int, align: int = 1) -> IPv6Address | None:
+    """The least multiple of a number in ranges from which on one of them has this many addresses."""
+    for start, end in zip_longest(ends[::2], ends[1::2]):
+        at = -(-int(start) // align) * align
+        if (_MOST + 1 if end is None else int(end)) - at >= count:
+            return IPv6Address(at)
+    return None
 
 
 def list_of(ranks: Iterable[int]) -> Boundaries:

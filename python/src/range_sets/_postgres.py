@@ -3,14 +3,18 @@
 from __future__ import annotations
 
 import re
-from datetime import date, datetime, timedelta
+from datetime import date, timedelta
 from itertools import zip_longest
-from typing import Any, Callable, Iterator, Protocol
 
+from ._elements import FORMS, element_of, looks_as
 from ._errors import ParseError
 from ._kind import SIGNED, Kind, Now
 from ._kinds import given_kind, kind_of
 from ._times import DATE
+from ._typing import TYPE_CHECKING
+
+if TYPE_CHECKING:
+    from typing import Any, Iterator
 
 # A bound as the server writes it, with nothing for none, and perhaps in quotes.
 _BOUND = r'("[^"\\]*"|[^"\\,\[\](){}]*)'
@@ -18,35 +22,8 @@ _RANGE = re.compile(rf"\s*(?:empty|([\[(]){_BOUND},{_BOUND}([\])]))\s*", re.IGNO
 _OPENED, _CLOSED = re.compile(r"\s*\{\s*"), re.compile(r"\}\s*")
 # What the server writes as the end of a range up to the greatest date that Python has.
 _AFTER_ALL = "10000-01-01"
-# What elements of the kinds look like, and how one is read.
-_DAY = r"\d{4}-\d\d-\d\d"
-_TIME = rf"{_DAY}[ T]\d\d:\d\d:\d\d(\.\d{{1,6}})?"
-_FORMS: dict[str, tuple[re.Pattern[str], Callable[[str], Any]]] = {
-    "int": (re.compile(r"\s*[-+]?\d+\s*", re.ASCII), int),
-    "date": (re.compile(_DAY, re.ASCII), date.fromisoformat),
-    "datetime": (re.compile(_TIME, re.ASCII), datetime.fromisoformat),
-    "datetime[UTC]": (re.compile(rf"{_TIME}[-+]\d\d(:\d\d){{0,2}}", re.ASCII), datetime.fromisoformat),
-}
-
-
-class Bounds(Protocol):
-    """What checkers of types know of a range of psycopg's."""
-
-    @property
-    def lower(self) -> Any:
-        ...
-
-    @property
-    def lower_inc(self) -> bool:
-        ...
-
-    @property
-    def upper(self) -> Any:
-        ...
-
-    @property
-    def upper_inc(self) -> bool:
-        ...
+# The kinds that multiranges have.
+_KINDS = "int", "date", "datetime", "datetime[UTC]"
 
 
 def half_open(lower: Any, lower_inc: bool, upper: Any, upper_inc: bool) -> tuple[Any, Any]:
@@ -108,24 +85,16 @@ def _element(text: str, position: int, kind: Kind | None, is_end: bool) -> tuple
     if is_end and kind in (None, DATE) and plain == _AFTER_ALL:
         return None, DATE
     if kind is None:
-        kind = given_kind(next((name for name, (form, _) in _FORMS.items() if form.fullmatch(plain)), None))
+        kind = given_kind(next((name for name in _KINDS if looks_as(plain, FORMS[name][0])), None))
     if kind is None:
         raise ParseError("a number, a date or a time", position)
-    form, read_one = _FORMS[kind.name]
-    try:
-        if form.fullmatch(plain):
-            element = read_one(plain)
-            kind.number(element)
-            return element, kind
-    except (ValueError, OverflowError):
-        pass
-    raise ParseError(kind.element, position)
+    return element_of(plain, position, kind), kind
 
 
 def _check_kind(kind: Kind) -> None:
     """Raises a TypeError for a kind that no multirange has."""
-    if kind.name not in _FORMS:
-        raise TypeError(f"PostgreSQL's multiranges are of the kinds {', '.join(_FORMS)}, and not {kind.name}")
+    if kind.name not in _KINDS:
+        raise TypeError(f"PostgreSQL's multiranges are of the kinds {', '.join(_KINDS)}, and not {kind.name}")
 
 
 def written(now: Now) -> str:

@@ -2,28 +2,35 @@
 
 from __future__ import annotations
 
-from ipaddress import IPv4Network
 from operator import index
-from typing import Any, SupportsIndex, overload
 
 from . import _core
 from ._arrays import contains_each, covered_within_each, overlaps_each, range_at_each, rank_each
 from ._core import Boundaries
 from ._floats import FLOAT
 from ._kept import Kept
-from ._kind import NO_KIND, Array, Element, Kind, Now
+from ._kind import NO_KIND, Kind, Now
 from ._kinds import NETWORKS, asked_error, kind_of, kind_of_first
 from ._operators import Operators
-from ._ordered import first_gap
-from ._sources import OneRange, Source, all_from, codes_of_range, gather, range_of
+from ._sources import all_from, codes_of_range, gather
+from ._typing import TYPE_CHECKING, E
+
+if not TYPE_CHECKING:
+    from ._typing import overload
+else:
+    from datetime import date, datetime, timedelta
+    from ipaddress import IPv4Address, IPv6Address
+    from typing import Any, SupportsIndex, overload
+
+    from ._typing import Array, Network, OneRange, Source
 
 
-class Questions(Operators):
+class Questions(Operators[E]):
     """What is asked of a set by a name. Arrays are asked about at once."""
 
     __slots__ = ()
 
-    def __contains__(self, value: Element | IPv4Network) -> bool:
+    def __contains__(self, value: E | Network[E]) -> bool:
         asked, kind = self._seen
         try:
             return _core.contains(asked, value if kind.is_whole else kind.number(value))  # type: ignore[arg-type]
@@ -33,7 +40,7 @@ class Questions(Operators):
             if kind is NO_KIND and kind_of(value):
                 return False
             if isinstance(value, NETWORKS):
-                return self.covers(value)
+                return self.covers(value)  # type: ignore[arg-type]
             raise asked_error(value, kind, error) from None
 
     def contains(self, values: Any) -> Any:
@@ -69,11 +76,11 @@ class Questions(Operators):
         return covered_within_each(self._now, starts, ends)
 
     @overload
-    def covers(self, start: OneRange) -> bool:
+    def covers(self, start: OneRange[E]) -> bool:
         ...
 
     @overload
-    def covers(self, start: Element | None, end: Element | None) -> bool:
+    def covers(self, start: E | None, end: E | None) -> bool:
         ...
 
     def covers(self, start: Any, end: Any = ...) -> bool:
@@ -105,7 +112,7 @@ class Questions(Operators):
         ...
 
     @overload
-    def range_at(self, value: Element) -> tuple[Any, Any] | None:
+    def range_at(self, value: E) -> tuple[E, E | None] | None:
         ...
 
     def range_at(self, value: Any) -> Any:
@@ -128,6 +135,26 @@ class Questions(Operators):
         except OverflowError:
             return None
 
+    @overload
+    def covered(self: Questions[int]) -> int | None:
+        ...
+
+    @overload
+    def covered(self: Questions[IPv4Address] | Questions[IPv6Address]) -> int:
+        ...
+
+    @overload
+    def covered(self: Questions[float]) -> float | None:
+        ...
+
+    @overload
+    def covered(self: Questions[date] | Questions[datetime] | Questions[timedelta]) -> timedelta | None:
+        ...
+
+    @overload
+    def covered(self) -> Any:
+        ...
+
     def covered(self) -> Any:
         """How many numbers or addresses are members. Of times and dates it is a `timedelta`, and of floats the sum of the lengths of
         the ranges. It is None if the last range has no end, as has one up to the greatest number or time. Addresses always have one.
@@ -146,7 +173,7 @@ class Questions(Operators):
         ...
 
     @overload
-    def rank(self, value: Element) -> int:
+    def rank(self, value: E) -> int:
         ...
 
     def rank(self, value: Any) -> Any:
@@ -167,7 +194,7 @@ class Questions(Operators):
             raise TypeError(kind.uncounted)
         return _core.rank(asked, upper[0])
 
-    def select(self, k: SupportsIndex) -> Any:
+    def select(self, k: SupportsIndex) -> E | None:
         """The member with `k` others below it, or None if no more than `k` are members. Floats, IPv6 addresses and
         values that sort can't be counted.
 
@@ -186,7 +213,7 @@ class Questions(Operators):
         found = _core.select(asked, at) if at < 2**64 else None
         return None if found is None or found > kind.most else kind.value(found)
 
-    def span(self) -> tuple[Any, Any] | None:
+    def span(self) -> tuple[E, E | None] | None:
         """From the start of the first range to the end of the last one, or None if the set is empty.
 
         Cost: none.
@@ -197,44 +224,17 @@ class Questions(Operators):
         asked, kind = self._seen
         return kind.pair(_core.span(asked))
 
-    def first_fit(self, length: Any, start: Element | None = None, end: Element | None = None) -> Any:
-        """The first element from `start` on where `length` elements before `end` are no members, or None if there is none. For times
-        and dates the length is a `timedelta`.
-
-        Cost: goes over the ranges up to the answer; a `MutableRangeSet` remembers which gaps are short.
-
-        >>> RangeSet([(0, 10), (12, 20)]).first_fit(3, 0)
-        20
-        """
-        asked, kind = self._seen
-        if kind is NO_KIND:
-            kind = kind_of_first((start, end)) or kind
-        count = kind.count(length)
-        if count < 0:
-            raise ValueError("expected a length from 0 on")
-        if kind.is_ordered:
-            left, right, both = self._beside(range_of(start, end, kind))
-            return first_gap([*both.values(_core.difference(right, left) if count else right)], count)
-        first, last = kind.checked(kind.start(start)), kind.end(end)
-        before = kind.most if last is None else kind.checked(last)
-        found = _core.first_fit(asked, first, before, count) if count < 2**64 else None
-        if found is None and last is None:
-            # Elements up to the greatest one, which no end is above.
-            at = before - count + 1
-            found = at if first <= at and not self._beside((kind.range_list(at, None), kind))[0].overlapping(at, None) else None
-        return None if found is None else kind.value(found)
-
     # ---- Of two sets ----
 
-    def _of(self, source: Source) -> Now:
+    def _of(self, source: Source[E]) -> Now:
         kind = self._kind
         return gather(source, None if kind is NO_KIND or isinstance(source, Kept) else kind)
 
-    def _met(self, source: Source) -> tuple[Boundaries, Boundaries, Kind]:
+    def _met(self, source: Source[E]) -> tuple[Boundaries, Boundaries, Kind]:
         """What `_both` has of this set and one that a source makes."""
         return self._both(source) if isinstance(source, Operators) else self._beside(self._of(source))
 
-    def isdisjoint(self, other: Source) -> bool:
+    def isdisjoint(self, other: Source[E]) -> bool:
         """Whether no element is in both sets.
 
         Cost: searches for the ranges of the smaller set.
@@ -245,7 +245,7 @@ class Questions(Operators):
         left, right, _ = self._met(other)
         return _core.is_disjoint(left, right)
 
-    def issubset(self, other: Source) -> bool:
+    def issubset(self, other: Source[E]) -> bool:
         """Whether each member is one of the other set; `<=` takes sets alone.
 
         Cost: searches for the ranges of the smaller set.
@@ -255,7 +255,7 @@ class Questions(Operators):
         """
         return self <= other if isinstance(other, Operators) else self._is_within(self._of(other))
 
-    def issuperset(self, other: Source) -> bool:
+    def issuperset(self, other: Source[E]) -> bool:
         """Whether each member of the other set is one of this; `>=` takes sets alone.
 
         Cost: searches for the ranges of the smaller set.

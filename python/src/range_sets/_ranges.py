@@ -3,37 +3,35 @@
 from __future__ import annotations
 
 from array import array
-from ipaddress import IPv4Network, IPv6Network, summarize_address_range
+from ipaddress import summarize_address_range
 from itertools import chain, starmap, zip_longest
-from typing import TYPE_CHECKING, Any, Iterable, Iterator, Never, Self, SupportsIndex, overload
 
-from . import _core, _postgres, _text
+from . import _core
+from ._conversions import of_kind
+from ._fits import Fits
 from ._kept import _restored, _unpacked
-from ._kind import NO_KIND, Element, Kind, KindLike
-from ._kinds import Addresses, agreed, given_kind, whole
+from ._kind import NO_KIND, Kind
+from ._kinds import ADDRESSES, agreed, given_kind, whole
+from ._moves import Moves
 from ._numbers import typecode_of
-from ._ordered import LongAddresses
-from ._questions import Questions
-from ._sources import (
-    OneRange,
-    Source,
-    all_from,
-    boundaries_of,
-    codes_of_range,
-    gather,
-    intersection_of,
-    range_of,
-    ranges_of,
-    sets_of,
-    union_of,
-    values_of,
-)
+from ._sources import all_from, boundaries_of, codes_of_range, gather, intersection_of, range_of, ranges_of, sets_of, union_of, values_of
+from ._tables import Tables
+from ._typing import TYPE_CHECKING, E
+
+if not TYPE_CHECKING:
+    from ._typing import overload
+else:
+    from ipaddress import IPv4Network, IPv6Network
+    from typing import Any, Iterable, Iterator, Never, Self, SupportsIndex, overload
+
+    from ._sets import MutableRangeSet, RangeSet
+    from ._typing import F, KindLike, OneRange, Source
 
 # Pickles name them here.
 __all__ = ["AnyRangeSet", "_restored", "_unpacked"]
 
 
-class AnyRangeSet(Questions):
+class AnyRangeSet(Fits[E], Moves[E], Tables[E]):
     """A set of elements as the ranges that have them: what `RangeSet` and `MutableRangeSet` have in common.
 
     Elements are whole numbers of 64 bits, from -2**63 to 2**63 - 1 or with `unsigned=True` from 0 to 2**64 - 1; or else floats, times,
@@ -44,20 +42,35 @@ class AnyRangeSet(Questions):
     __slots__ = ()
     __module__ = "range_sets"
 
-    if TYPE_CHECKING:
+    # Pairs and sets by themselves, of which checkers find the type of the elements also if they know less of them.
 
-        def __new__(cls, source: Source = (), *, unsigned: bool | None = None, kind: KindLike = None, **attributes: Never) -> Self:
-            ...
+    @overload
+    def __new__(
+        cls, source: Iterable[tuple[E, E | None]] = (), *, unsigned: bool | None = None, kind: KindLike[E] = None, **attributes: Never
+    ) -> Self:
+        ...
 
-    else:
+    @overload
+    def __new__(
+        cls, source: Iterable[AnyRangeSet[E]], *, unsigned: bool | None = None, kind: KindLike[E] = None, **attributes: Never
+    ) -> Self:
+        ...
 
-        def __new__(cls, source=(), *more, unsigned=None, kind=None, **attributes):
-            if more:
-                raise TypeError(f"{cls.__name__} is made of one argument, not {1 + len(more)}: a list of pairs, as [(3, 5), (7, 9)]")
-            # The `__init__` of a subclass takes them.
-            if attributes and cls.__init__ is object.__init__:
-                raise TypeError(f"{cls.__name__}() got an unexpected keyword argument {next(iter(attributes))!r}")
-            return cls._over(*gather(source, given_kind(kind, unsigned)))
+    @overload
+    def __new__(cls, source: Iterable[str], *, unsigned: bool | None = None, kind: KindLike[E], **attributes: Never) -> Self:
+        ...
+
+    @overload
+    def __new__(cls, source: Source[E], *, unsigned: bool | None = None, kind: KindLike[E] = None, **attributes: Never) -> Self:
+        ...
+
+    def __new__(cls, source: Any = (), *more: Any, unsigned: bool | None = None, kind: KindLike[E] = None, **attributes: Any) -> Self:
+        if more:
+            raise TypeError(f"{cls.__name__} is made of one argument, not {1 + len(more)}: a list of pairs, as [(3, 5), (7, 9)]")
+        # The `__init__` of a subclass takes them.
+        if attributes and cls.__init__ is object.__init__:
+            raise TypeError(f"{cls.__name__}() got an unexpected keyword argument {next(iter(attributes))!r}")
+        return cls._over(*gather(source, given_kind(kind, unsigned)))
 
     # ---- What it is ----
 
@@ -97,8 +110,18 @@ class AnyRangeSet(Questions):
 
     # ---- Made of other things ----
 
+    @overload
     @classmethod
-    def from_boundaries(cls, items: Any, *, unsigned: bool | None = None, kind: KindLike = None) -> Self:
+    def from_boundaries(cls, items: Iterable[E], *, unsigned: bool | None = None) -> Self:
+        ...
+
+    @overload
+    @classmethod
+    def from_boundaries(cls, items: Any, *, unsigned: bool | None = None, kind: KindLike[E]) -> Self:
+        ...
+
+    @classmethod
+    def from_boundaries(cls, items: Any, *, unsigned: bool | None = None, kind: KindLike[E] = None) -> Self:
         """The set with these boundaries, from a buffer, such as a numpy array, or an iterable: at each the set begins or ends.
 
         They have to be strictly sorted, which is checked. With its kind they may be what `boundaries` has of a set.
@@ -110,8 +133,18 @@ class AnyRangeSet(Questions):
         """
         return cls._over(*boundaries_of(items, given_kind(kind, unsigned)))
 
+    @overload
     @classmethod
-    def from_ranges(cls, numbers: Any, *, kind: KindLike = None) -> Self:
+    def from_ranges(cls, numbers: Iterable[E]) -> Self:
+        ...
+
+    @overload
+    @classmethod
+    def from_ranges(cls, numbers: Any, *, kind: KindLike[E]) -> Self:
+        ...
+
+    @classmethod
+    def from_ranges(cls, numbers: Any, *, kind: KindLike[E] = None) -> Self:
         """The elements in some range of a buffer: a start and an end in turn, or a table with a row for each, in any order.
 
         Cost: that of sorting them.
@@ -122,8 +155,18 @@ class AnyRangeSet(Questions):
         """
         return cls._over(*ranges_of(numbers, given_kind(kind)))
 
+    @overload
     @classmethod
-    def from_values(cls, values: Any, *, unsigned: bool | None = None, kind: KindLike = None) -> Self:
+    def from_values(cls, values: Iterable[E], *, unsigned: bool | None = None, kind: KindLike[E] = None) -> Self:
+        ...
+
+    @overload
+    @classmethod
+    def from_values(cls, values: Any, *, unsigned: bool | None = None, kind: KindLike[E]) -> Self:
+        ...
+
+    @classmethod
+    def from_values(cls, values: Any, *, unsigned: bool | None = None, kind: KindLike[E] = None) -> Self:
         """The set of these elements, from an array or an iterable, in any order.
 
         Cost: that of sorting them.
@@ -133,9 +176,26 @@ class AnyRangeSet(Questions):
         """
         return cls._over(*values_of(values, given_kind(kind, unsigned)))
 
+    @overload
     @classmethod
-    def parse(cls, text: str, *, unsigned: bool = False) -> Self:
-        """Reads what `str` writes of whole numbers: ranges in any order, with commas between them. An empty or reversed range has no members.
+    def parse(cls: type[RangeSet[Any]], text: str, *, unsigned: bool = False) -> RangeSet[int]:  # type: ignore[misc]
+        ...
+
+    @overload
+    @classmethod
+    def parse(cls: type[MutableRangeSet[Any]], text: str, *, unsigned: bool = False) -> MutableRangeSet[int]:  # type: ignore[misc]
+        ...
+
+    @overload
+    @classmethod
+    def parse(cls, text: str, *, unsigned: bool = False, kind: KindLike[E]) -> Self:
+        ...
+
+    @classmethod
+    def parse(cls, text: str, *, unsigned: bool = False, kind: KindLike[Any] = None) -> AnyRangeSet[Any]:
+        """Reads what `str` writes of whole numbers, or of a kind of floats, dates, times or addresses: ranges in any order, with commas
+        between them. An empty or reversed range has no members. Times may go without seconds. Between commas may also stand a network,
+        one address, or the first and the last with a hyphen.
 
         A text that isn't one of ranges, or has a number that is out of range, raises ParseError with the `position` of the fault
         in characters from 0.
@@ -144,11 +204,20 @@ class AnyRangeSet(Questions):
 
         >>> RangeSet.parse("20.., 0..10")
         RangeSet([(0, 10), (20, None)])
+        >>> print(RangeSet.parse("10.0.0.0/30, 10.0.0.4-10.0.0.9", kind="IPv4Address"))
+        10.0.0.0..10.0.0.10
         """
-        return cls._over(_text.read(text, unsigned), whole(unsigned))
+        found = given_kind(kind, unsigned or None) or whole(unsigned)
+        if found.is_whole:
+            from . import _text
+
+            return cls._over(_text.read(text, found.unsigned), found)
+        from . import _elements
+
+        return cls._over(*gather([*_elements.ranges_in(text, found)], found))
 
     @classmethod
-    def from_multirange(cls, text: str, *, kind: KindLike = None) -> Self:
+    def from_multirange(cls, text: str, *, kind: KindLike[E] = None) -> Self:
         """The set of a text of a multirange of PostgreSQL's, or of a range, of whole numbers, dates or times. Closed ends and open starts
         are those of the next number or date; of times they raise a ValueError.
 
@@ -160,6 +229,8 @@ class AnyRangeSet(Questions):
         >>> RangeSet.from_multirange("{[0,10),(19,20],[30,)}")
         RangeSet([(0, 10), (20, 21), (30, None)])
         """
+        from . import _postgres
+
         return cls._over(*gather(*_postgres.read(text, given_kind(kind))))
 
     def to_multirange(self) -> str:
@@ -170,10 +241,22 @@ class AnyRangeSet(Questions):
         >>> RangeSet([(0, 10), (20, None)]).to_multirange()
         '{[0,10),[20,)}'
         """
+        from . import _postgres
+
         return _postgres.written(self._now)
 
+    @overload
     @classmethod
-    def union_all(cls, sets: Iterable[Source], *, unsigned: bool | None = None, kind: KindLike = None) -> Self:
+    def union_all(cls, sets: Iterable[AnyRangeSet[E]], *, unsigned: bool | None = None, kind: KindLike[E] = None) -> Self:
+        ...
+
+    @overload
+    @classmethod
+    def union_all(cls, sets: Iterable[Source[E]], *, unsigned: bool | None = None, kind: KindLike[E] = None) -> Self:
+        ...
+
+    @classmethod
+    def union_all(cls, sets: Iterable[Any], *, unsigned: bool | None = None, kind: KindLike[E] = None) -> Self:
         """The elements in some set of many. If there are none, `unsigned` or `kind` says of which kind the empty set is.
 
         Cost: for n boundaries in k sets n log k steps.
@@ -183,8 +266,18 @@ class AnyRangeSet(Questions):
         """
         return cls._joined(union_of, sets, given_kind(kind, unsigned))
 
+    @overload
     @classmethod
-    def intersection_all(cls, sets: Iterable[Source], *, unsigned: bool | None = None, kind: KindLike = None) -> Self:
+    def intersection_all(cls, sets: Iterable[AnyRangeSet[E]], *, unsigned: bool | None = None, kind: KindLike[E] = None) -> Self:
+        ...
+
+    @overload
+    @classmethod
+    def intersection_all(cls, sets: Iterable[Source[E]], *, unsigned: bool | None = None, kind: KindLike[E] = None) -> Self:
+        ...
+
+    @classmethod
+    def intersection_all(cls, sets: Iterable[Any], *, unsigned: bool | None = None, kind: KindLike[E] = None) -> Self:
         """The elements in each set of many. If there are none, these are all, and `unsigned` or `kind` says of which kind.
 
         Cost: for n boundaries in k sets at most n log k steps.
@@ -195,7 +288,7 @@ class AnyRangeSet(Questions):
         return cls._joined(intersection_of, sets, given_kind(kind, unsigned))
 
     @classmethod
-    def _joined(cls, join: Any, sets: Iterable[Source], kind: Kind | None) -> Self:
+    def _joined(cls, join: Any, sets: Iterable[Any], kind: Kind | None) -> Self:
         return cls._over(*join(sets_of(sets, kind), kind))
 
     # ---- The ranges ----
@@ -206,12 +299,12 @@ class AnyRangeSet(Questions):
     def __bool__(self) -> bool:
         return len(self._now[0]) != 0
 
-    def __iter__(self) -> Iterator[tuple[Any, Any]]:
+    def __iter__(self) -> Iterator[tuple[E, E | None]]:
         boundaries, kind = self._now
         items = kind.values(boundaries)
         return zip_longest(items, items)
 
-    def bounded(self) -> Iterator[tuple[Any, Any]]:
+    def bounded(self) -> Iterator[tuple[E, E]]:
         """The ranges, each with an end. A set without an end raises a ValueError.
 
         Cost: goes over all ranges.
@@ -225,7 +318,7 @@ class AnyRangeSet(Questions):
         items = kind.values(boundaries)
         return zip(items, items)
 
-    def members(self) -> Iterator[Any]:
+    def members(self) -> Iterator[E]:
         """The elements in order, one by one, up to the greatest if the set has no end. Floats, IPv6 addresses and values that sort
         can't be listed.
 
@@ -252,26 +345,26 @@ class AnyRangeSet(Questions):
         (['10.0.0.0/24', '10.0.1.0/25'], True)
         """
         boundaries, kind = self._now
-        if not isinstance(kind, (Addresses, LongAddresses)) and kind is not NO_KIND:
+        if not isinstance(kind, ADDRESSES) and kind is not NO_KIND:
             raise TypeError(f"expected a set of addresses, not of the kind {kind.name}")
         items = kind.values(boundaries)
         # None is above the greatest address.
         last = ((start, type(start)(2**start.max_prefixlen - 1) if end is None else end - 1) for start, end in zip_longest(items, items))
         return chain.from_iterable(starmap(summarize_address_range, last))
 
-    def __reversed__(self) -> Iterator[tuple[Any, Any]]:
+    def __reversed__(self) -> Iterator[tuple[E, E | None]]:
         kept = self._over(*self._now)
         return map(kept.__getitem__, range(len(kept) - 1, -1, -1))
 
     @overload
-    def __getitem__(self, at: SupportsIndex) -> tuple[Any, Any]:
+    def __getitem__(self, at: SupportsIndex) -> tuple[E, E | None]:
         ...
 
     @overload
     def __getitem__(self, at: slice) -> Self:
         ...
 
-    def __getitem__(self, at: SupportsIndex | slice) -> tuple[Any, Any] | Self:
+    def __getitem__(self, at: SupportsIndex | slice) -> tuple[E, E | None] | Self:
         # Goes over a whole MutableRangeSet that has changed.
         items, kind = self._now
         count = (len(items) + 1) // 2
@@ -291,11 +384,11 @@ class AnyRangeSet(Questions):
     # ---- New sets ----
 
     @overload
-    def overlapping(self, start: OneRange) -> Self:
+    def overlapping(self, start: OneRange[E]) -> Self:
         ...
 
     @overload
-    def overlapping(self, start: Element | None, end: Element | None) -> Self:
+    def overlapping(self, start: E | None, end: E | None) -> Self:
         ...
 
     def overlapping(self, start: Any, end: Any = ...) -> Self:
@@ -318,7 +411,7 @@ class AnyRangeSet(Questions):
             near = self._beside((kind.range_list(first, last), kind))[0]
         return self._over(near.overlapping(first, last), kind)
 
-    def gaps(self, start: Element | None = None, end: Element | None = None) -> Self:
+    def gaps(self, start: E | None = None, end: E | None = None) -> Self:
         """The elements from `start` up to, not including, `end` that are no members.
 
         Cost: two searches, and the gaps.
@@ -329,7 +422,7 @@ class AnyRangeSet(Questions):
         left, right, kind = self._beside(range_of(start, end, self._kind))
         return self._over(_core.difference(right, left), kind)
 
-    def split(self, at: Element) -> tuple[Self, Self]:
+    def split(self, at: E) -> tuple[Self, Self]:
         """The members below an element, and those from it on.
 
         Cost: a search, and a copy of the parts.
@@ -348,7 +441,31 @@ class AnyRangeSet(Questions):
         below = _core.difference(items[:left_len], upper)
         return self._over(below, kind), self._over(_core.intersection(above, upper), kind)
 
-    def union(self, *others: Source) -> Self:
+    @overload
+    def astype(self: RangeSet[Any], kind: type[F] | str) -> RangeSet[F]:  # type: ignore[misc]
+        ...
+
+    @overload
+    def astype(self: MutableRangeSet[Any], kind: type[F] | str) -> MutableRangeSet[F]:  # type: ignore[misc]
+        ...
+
+    def astype(self, kind: KindLike[Any]) -> AnyRangeSet[Any]:
+        """The set with the same starts and ends as elements of another kind: one of whole numbers or floats as another of these, or one
+        of dates or times without a zone. A date is the time at which it begins. If the other kind hasn't a start or an end, it is a
+        ValueError or an OverflowError.
+
+        Cost: goes over all ranges.
+
+        >>> from datetime import date
+        >>> RangeSet([(date(2026, 5, 1), None)]).astype("datetime")
+        RangeSet([(datetime.datetime(2026, 5, 1, 0, 0), None)])
+        """
+        found = given_kind(kind)
+        if found is None:
+            raise TypeError("expected a kind, not None")
+        return self._over(*of_kind(self._now, found))
+
+    def union(self, *others: Source[E]) -> Self:
         """The elements in this set or in another; `|` takes sets alone.
 
         Cost: a copy of all.
@@ -358,7 +475,7 @@ class AnyRangeSet(Questions):
         """
         return self._over(*union_of([self._now, *map(self._of, others)]))
 
-    def intersection(self, *others: Source) -> Self:
+    def intersection(self, *others: Source[E]) -> Self:
         """The elements in this set and in each other; `&` takes sets alone.
 
         Cost: searches for the ranges of the smaller set, and the result.
@@ -372,7 +489,7 @@ class AnyRangeSet(Questions):
             made = self._over(_core.intersection(left, right), kind)
         return made if others else self._over(*self._now)
 
-    def difference(self, *others: Source) -> Self:
+    def difference(self, *others: Source[E]) -> Self:
         """The elements in this set and in no other; `-` takes sets alone.
 
         Cost: searches for the ranges of the smaller set, and the result.
@@ -389,7 +506,7 @@ class AnyRangeSet(Questions):
             result = _core.difference(left, right)
         return self._over(result, kind)
 
-    def symmetric_difference(self, other: Source) -> Self:
+    def symmetric_difference(self, other: Source[E]) -> Self:
         """The elements in exactly one of the two sets; `^` takes sets alone.
 
         Cost: a copy of both.

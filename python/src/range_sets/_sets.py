@@ -2,17 +2,23 @@
 
 from __future__ import annotations
 
-from typing import TYPE_CHECKING, Any, Callable, Self, overload
-
 from . import _core
 from ._core import Boundaries, Chunks
-from ._kind import Element, Kind, Now
+from ._kind import Kind, Now
 from ._kinds import agreed
 from ._ranges import AnyRangeSet
-from ._sources import OneRange, Source, codes_of_range, intersection_of, range_of, union_of
+from ._sources import codes_of_range, intersection_of, range_of, union_of
+from ._typing import TYPE_CHECKING, E
+
+if not TYPE_CHECKING:
+    from ._typing import overload
+else:
+    from typing import Any, Callable, Self, overload
+
+    from ._typing import OneRange, Source
 
 
-class RangeSet(AnyRangeSet):
+class RangeSet(AnyRangeSet[E]):
     """A set of whole numbers, times or other elements, as the ranges that have them. It never changes, and can be a key of a dict.
 
     It is made of pairs (start, end), `range` objects, networks, other sets, or an iterable of these in any order. The start of a range
@@ -43,8 +49,9 @@ class RangeSet(AnyRangeSet):
     >>> "apple" in words, words & RangeSet([("b", "m")]), ~words
     (True, RangeSet([('b', 'fig'), ('kiwi', 'm')]), RangeSet([('', 'a'), ('fig', 'kiwi'), ('plum', None)]))
 
-    In the signatures below `Source` is what a set is made of, `Element` an element, `OneRange` a pair, a `range`, a network or one
-    element, and `KindLike` what `kind` takes: the name of a kind as the attribute `kind` has it, or a type of Python's.
+    To checkers of types it is a `RangeSet[E]`, as `RangeSet[int]`. In the signatures below `E` is an element, `Source` what a set is made
+    of, `OneRange` a pair, a `range`, a network or one element, and `KindLike` what `kind` takes: the name of a kind as the attribute `kind`
+    has it, or a type of Python's.
 
     >>> list(RangeSet([(0, 10), (20, None)], unsigned=True))
     [(0, 10), (20, None)]
@@ -88,11 +95,11 @@ class RangeSet(AnyRangeSet):
         return self.__copy__()
 
     @overload
-    def insert(self, start: OneRange) -> Self:
+    def insert(self, start: OneRange[E]) -> Self:
         ...
 
     @overload
-    def insert(self, start: Element | None, end: Element | None) -> Self:
+    def insert(self, start: E | None, end: E | None) -> Self:
         ...
 
     def insert(self, start: Any, end: Any = ...) -> Self:
@@ -107,11 +114,11 @@ class RangeSet(AnyRangeSet):
         return self._over(_core.union(left, right), kind)
 
     @overload
-    def remove(self, start: OneRange) -> Self:
+    def remove(self, start: OneRange[E]) -> Self:
         ...
 
     @overload
-    def remove(self, start: Element | None, end: Element | None) -> Self:
+    def remove(self, start: E | None, end: E | None) -> Self:
         ...
 
     def remove(self, start: Any, end: Any = ...) -> Self:
@@ -126,7 +133,7 @@ class RangeSet(AnyRangeSet):
         return self._over(_core.difference(left, right), kind)
 
 
-class MutableRangeSet(AnyRangeSet):
+class MutableRangeSet(AnyRangeSet[E]):
     """A set of whole numbers, times or other elements that changes in place. It is made as a `RangeSet` is, and has no hash.
 
     >>> received = MutableRangeSet()
@@ -191,7 +198,7 @@ class MutableRangeSet(AnyRangeSet):
         _, right, kind = agreed((kind.nothing, kind), other)
         return chunks.near(right, kind), right, kind
 
-    def __le__(self, other: AnyRangeSet) -> bool:
+    def __le__(self, other: AnyRangeSet[E]) -> bool:
         return self._is_within(other._now) if isinstance(other, AnyRangeSet) else NotImplemented
 
     def _is_within(self, other: Now) -> bool:
@@ -259,11 +266,11 @@ class MutableRangeSet(AnyRangeSet):
         self._chunks.clear()
 
     @overload
-    def add(self, start: OneRange) -> None:
+    def add(self, start: OneRange[E]) -> None:
         ...
 
     @overload
-    def add(self, start: Element | None, end: Element | None) -> None:
+    def add(self, start: E | None, end: E | None) -> None:
         ...
 
     def add(self, start: Any, end: Any = ...) -> None:
@@ -283,11 +290,11 @@ class MutableRangeSet(AnyRangeSet):
             pass
 
     @overload
-    def discard(self, start: OneRange) -> None:
+    def discard(self, start: OneRange[E]) -> None:
         ...
 
     @overload
-    def discard(self, start: Element | None, end: Element | None) -> None:
+    def discard(self, start: E | None, end: E | None) -> None:
         ...
 
     def discard(self, start: Any, end: Any = ...) -> None:
@@ -304,7 +311,7 @@ class MutableRangeSet(AnyRangeSet):
         while not (chunks.remove(start, end) or self._change_range(chunks.remove, Chunks.difference, start, end)):
             pass
 
-    def update(self, *others: Source) -> None:
+    def update(self, *others: Source[E]) -> None:
         """Puts in the elements of other sets; `|=` takes sets alone.
 
         Cost: a search for each range that it is given; if these are many, goes over all.
@@ -316,7 +323,7 @@ class MutableRangeSet(AnyRangeSet):
         """
         self._change(Chunks.union, union_of([*map(self._of, others)]))
 
-    def intersection_update(self, *others: Source) -> None:
+    def intersection_update(self, *others: Source[E]) -> None:
         """Keeps the elements that are in each other set; `&=` takes sets alone.
 
         Cost: a search for each range that it is given; if these are many, goes over all.
@@ -330,7 +337,7 @@ class MutableRangeSet(AnyRangeSet):
         if sets:
             self._change(Chunks.intersection, intersection_of(sets))
 
-    def difference_update(self, *others: Source) -> None:
+    def difference_update(self, *others: Source[E]) -> None:
         """Takes out the elements of other sets; `-=` takes sets alone.
 
         Cost: a search for each range that it is given; if these are many, goes over all.
@@ -342,7 +349,7 @@ class MutableRangeSet(AnyRangeSet):
         """
         self._change(Chunks.difference, union_of([*map(self._of, others)]))
 
-    def symmetric_difference_update(self, other: Source) -> None:
+    def symmetric_difference_update(self, other: Source[E]) -> None:
         """Keeps the elements that are in exactly one of the two sets; `^=` takes sets alone.
 
         Cost: a search for each range that it is given; if these are many, goes over all.
@@ -354,14 +361,14 @@ class MutableRangeSet(AnyRangeSet):
         """
         self._change(Chunks.symmetric_difference, self._of(other))
 
-    def __ior__(self, other: AnyRangeSet) -> Self:
+    def __ior__(self, other: AnyRangeSet[E]) -> Self:
         return self._change(Chunks.union, other._now) if isinstance(other, AnyRangeSet) else NotImplemented
 
-    def __iand__(self, other: AnyRangeSet) -> Self:
+    def __iand__(self, other: AnyRangeSet[E]) -> Self:
         return self._change(Chunks.intersection, other._now) if isinstance(other, AnyRangeSet) else NotImplemented
 
-    def __isub__(self, other: AnyRangeSet) -> Self:
+    def __isub__(self, other: AnyRangeSet[E]) -> Self:
         return self._change(Chunks.difference, other._now) if isinstance(other, AnyRangeSet) else NotImplemented
 
-    def __ixor__(self, other: AnyRangeSet) -> Self:
+    def __ixor__(self, other: AnyRangeSet[E]) -> Self:
         return self._change(Chunks.symmetric_difference, other._now) if isinstance(other, AnyRangeSet) else NotImplemented

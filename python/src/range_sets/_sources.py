@@ -4,41 +4,26 @@ from __future__ import annotations
 
 import reprlib
 from array import array
-from enum import Enum, auto
-from ipaddress import IPv4Network, IPv6Network
 from itertools import chain
-from typing import TYPE_CHECKING, Any, Callable, Iterable, Union
 
 from . import _core
-from ._arrays import array_of, codes_of_floats, refuse_nats, times_in_utc
+from ._arrays import codes_of_floats, has_mask, refuse_nats
+from ._columns import in_microseconds, stacked
+from ._conversions import of_times
 from ._core import Boundaries
-from ._floats import FLOAT, mirrored
+from ._floats import FLOAT
 from ._kept import Kept
-from ._kind import NAN, NO_KIND, SIGNED, UNSIGNED, Element, Kind, Now
-from ._kinds import NETWORKS, OF_FLOATS, are_of_one, kind_of, kind_of_first, mixed, whole
+from ._kind import NAN, NO_KIND, SIGNED, UNSIGNED, Kind, Now
+from ._kinds import ADDRESSES, NETWORKS, OF_FLOATS, are_of_one, kind_of, kind_of_first, mixed, whole
 from ._numbers import typecode_of
-from ._ordered import ORDERED, Ordered
-from ._postgres import Bounds, half_open
-from ._times import AWARE, DELTA, NAIVE, Numpys, of_dtype
+from ._ordered import ORDERED, Ordered, after
+from ._times import DELTA, of_dtype
+from ._typing import TYPE_CHECKING
 
 if TYPE_CHECKING:
-    from ._ranges import AnyRangeSet
+    from typing import Any, Callable, Iterable, Iterator
 
-# The start and the end of a range. None as a start is the least element, and as an end says that there is none.
-Pair = tuple["Element | None", "Element | None"]
-# What a set is made of. A table is a buffer with two columns, as a numpy array of starts and ends. Among others a pair may be a list.
-Source = Union[
-    "AnyRangeSet",
-    range,
-    IPv4Network,
-    IPv6Network,
-    Bounds,
-    Pair,
-    "Iterable[AnyRangeSet | range | IPv4Network | IPv6Network | Bounds | Pair | Iterable[Element | None]]",
-]
-
-# What a range is given as without a second argument for its end.
-OneRange = Union[Element, range, IPv4Network, IPv6Network, Bounds, Pair]
+    from ._typing import Form
 
 
 def codes_of_range(start: Any, end: Any, kind: Any, is_asked: bool = True) -> tuple[int, int | None, Kind]:
@@ -91,11 +76,12 @@ def ends_of(item: Any, wanted: str) -> tuple[Any, Any]:
             raise ValueError(f"expected a range with step 1, not {item!r}")
         return item.start, item.stop
     if isinstance(item, NETWORKS):
-        last = item.broadcast_address
-        return item.network_address, None if int(last) + 1 == 2**item.max_prefixlen else last + 1
+        return item.network_address, after(item.broadcast_address)
     if _has_intervals(item):
         return item.left, item.right
     if hasattr(item, "lower_inc"):
+        from ._postgres import half_open
+
         if item.isempty:
             raise ValueError("expected a range that isn't empty")
         return half_open(item.lower, item.lower_inc, item.upper, item.upper_inc)
@@ -111,35 +97,17 @@ def ends_of(item: Any, wanted: str) -> tuple[Any, Any]:
 _ONE_RANGE = (range, *NETWORKS)
 
 
-class Form(Enum):
-    """What a source is that is no set, by which its ranges are read."""
-
-    RANGE = auto()
-    # A list or a tuple of ranges, pairs and sets.
-    ITEMS = auto()
-    # A tuple of two lists, which is refused.
-    STARTS_AND_ENDS = auto()
-    # A data frame, a column or intervals, as pandas has them.
-    COLUMNS = auto()
-    # An array of Python's objects.
-    OBJECTS = auto()
-    # A buffer of numbers or an array of times.
-    TABLE = auto()
-    # Perhaps an iterable.
-    OTHER = auto()
-
-
 def _form_of(source: Any) -> Form:
     if isinstance(source, _ONE_RANGE) or hasattr(source, "lower_inc") or _is_pair(source):
-        return Form.RANGE
+        return "range"
     if isinstance(source, (list, tuple)):
         is_two = isinstance(source, tuple) and len(source) == 2 and all(map(_is_column, source))
-        return Form.STARTS_AND_ENDS if is_two else Form.ITEMS
+        return "starts and ends" if is_two else "items"
     if hasattr(source, "to_numpy") or _has_intervals(source):
-        return Form.COLUMNS
-    if _dtype_letter(source) == "O" and hasattr(source, "tolist") and not _has_mask(source):
-        return Form.OBJECTS
-    return Form.TABLE if _is_buffer(source) else Form.OTHER
+        return "columns"
+    if _dtype_letter(source) == "O" and hasattr(source, "tolist") and not has_mask(source):
+        return "objects"
+    return "table" if _is_buffer(source) else "other"
 
 
 def gather(source: Any, kind: Kind | None) -> Now:
@@ -150,22 +118,26 @@ def gather(source: Any, kind: Kind | None) -> Now:
         if plain is not None:
             return plain, kind or (SIGNED if source else NO_KIND)
     if isinstance(source, Kept):
-        return _of_given_kind(_in_unit(source._now, kind), kind)
+        return _of_given_kind(of_times(source._now, kind), kind)
+    if type(source) is list:
+        found = _gather_pairs(source, kind)
+        if found is not None:
+            return found
     form = _form_of(source)
     match form:
-        case Form.RANGE:
+        case "range":
             return _gather_each((source,), kind)
-        case Form.ITEMS:
+        case "items":
             return _gather_each(source, kind)
-        case Form.STARTS_AND_ENDS:
+        case "starts and ends":
             raise TypeError("a list of starts and one of ends are no ranges: zip(starts, ends) has the pairs")
-        case Form.COLUMNS:
+        case "columns":
             return gather(*_table_of(source, kind))
-        case Form.OBJECTS:
+        case "objects":
             return gather(source.tolist(), kind)
-        case Form.TABLE:
+        case "table":
             return _ranges_of_table(source, kind)
-        case Form.OTHER:
+        case "other":
             return gather(items_of(source, "pairs, ranges or sets"), kind)
 
 
@@ -243,10 +215,8 @@ def _numbers_of_table(items: Any, kind: Kind | None) -> tuple[Any, Kind]:
 
 def _numbers_of(items: Any, kind: Kind | None) -> tuple[Any, Kind]:
     """The numbers of elements in a buffer or an iterable, and their kind."""
+    (items,), kind = in_microseconds((items,), kind)
     if not _is_buffer(items):
-        times = times_in_utc(items, kind)
-        if times is not None:
-            return _numbers_of_times(times, AWARE)
         values = list(items)
         found = (kind or kind_of_first(values) or NO_KIND).of(values)
         return _array_of(values, found, kind is not None), found
@@ -258,7 +228,7 @@ def _numbers_of(items: Any, kind: Kind | None) -> tuple[Any, Kind]:
 def _numbers_of_buffer(items: Any, kind: Kind | None) -> tuple[Any, Kind]:
     """The numbers of a buffer's elements, as 64 bits each and side by side, and their kind. Smaller whole numbers stay signed or
     unsigned unless a kind is given."""
-    if _has_mask(items):
+    if has_mask(items):
         raise TypeError("expected an array without a mask, as its compressed() gives one")
     if _has_times(items):
         return _numbers_of_times(items, kind)
@@ -292,16 +262,7 @@ def _numbers_of_floats(floats: Any, kind: Kind | None) -> tuple[Any, Kind]:
         if (floats != floats).any():
             raise ValueError(NAN)
         return memoryview(codes_of_floats(floats.reshape(-1))), FLOAT
-    numbers = mirrored(memoryview(array("d", floats)).cast("B").cast("q"))
-    if max(numbers) > FLOAT.most or min(numbers) < FLOAT.least:
-        raise ValueError(NAN)
-    return numbers, FLOAT
-
-
-def _has_mask(items: Any) -> bool:
-    # A column of pandas has a method of that name.
-    mask = getattr(items, "mask", None)
-    return mask is not None and not callable(mask)
+    return array("q", FLOAT.codes(floats.tolist())), FLOAT
 
 
 def _dtype_letter(items: Any) -> str:
@@ -343,18 +304,14 @@ def _has_intervals(item: Any) -> bool:
 def _table_of(source: Any, kind: Kind | None) -> tuple[Any, Kind | None]:
     """A table of numpy's with the starts and the ends of a data frame or of intervals, or what `to_numpy` makes of another column; and
     the kind, if it is known."""
-    columns = _columns_of(source)
-    in_utc = [it for it in (times_in_utc(it, kind) for it in columns) if it is not None]
-    if len(in_utc) == 2:
-        columns, kind = tuple(in_utc), AWARE
-    elif not columns or getattr(source, "ndim", 1) == 2:
-        return source.to_numpy(), kind
-    import numpy
-
-    return numpy.stack(columns, axis=-1).reshape(-1, 2), kind
+    columns = columns_of_pairs(source)
+    made, kind = in_microseconds(columns, kind)
+    if columns and (getattr(source, "ndim", 1) != 2 or made[0] is not columns[0]):
+        return stacked(made), kind
+    return source.to_numpy(), kind
 
 
-def _columns_of(source: Any) -> tuple[Any, ...]:
+def columns_of_pairs(source: Any) -> tuple[Any, ...]:
     """The starts and the ends of intervals, or the columns of a data frame with two."""
     if hasattr(source, "iloc") and getattr(source, "shape", ())[1:] == (2,):
         return source.iloc[:, 0], source.iloc[:, 1]
@@ -395,14 +352,6 @@ def _array_of(items: list[Any], kind: Kind, is_given: bool = True) -> array[int]
             # One of them isn't a number of the type: it is found, and the error says what is wanted.
             pass
     return array(typecode_of(kind.unsigned), map(kind.checked, _codes_of(items, kind, is_given)))
-
-
-def _in_unit(now: Now, kind: Kind | None) -> Now:
-    """A set of times without a zone in the unit of numpy's that is given, which has to have them; or else the set."""
-    found = now[1]
-    if kind is found or not isinstance(kind, Numpys) or not (found is NAIVE or isinstance(found, Numpys)):
-        return now
-    return _core.from_boundaries(array("q", [kind.number(kind.of_unit(it)) for it in array_of(now)])), kind
 
 
 def _of_given_kind(now: Now, kind: Kind | None) -> Now:
@@ -454,16 +403,43 @@ def _source_error(source: Any, wanted: str) -> TypeError:
 def _codes_of(values: Iterable[Any], kind: Kind, is_given: bool) -> list[int]:
     """The numbers of elements of the kind. Of whole numbers and floats the error says how both are taken, unless the kind is given."""
     try:
-        return [*map(kind.code, values)]
+        return kind.codes([*values])
     except TypeError as error:
         if kind is SIGNED and not is_given and str(error).startswith("'float'"):
             raise TypeError(f"{error}: {OF_FLOATS}") from None
         raise
 
 
+def _gather_pairs(items: list[Any], kind: Kind | None) -> Now | None:
+    """The union of pairs of elements of one kind; or None for anything else, which is read one by one."""
+    if {*map(type, items)} != {tuple} or {*map(len, items)} != {2}:
+        return None
+    ends = [*chain.from_iterable(items)]
+    kind = kind or kind_of(ends[0])
+    if kind is None:
+        return None
+    try:
+        kind = kind.of(ends)
+        codes = kind.codes(ends)
+    except (TypeError, ValueError):
+        return None
+    if min(codes) < kind.least or max(codes) > kind.most:
+        return None
+    return _core.from_ranges(array(typecode_of(kind.unsigned), codes)), kind
+
+
+def _of_texts(items: Iterable[Any], kind: Kind) -> Iterator[Any]:
+    """Ranges of addresses, of which some are texts."""
+    from . import _elements
+
+    return (_elements.range_of(it.strip(), 0, kind) if isinstance(it, str) else it for it in items)
+
+
 def _gather_each(items: list[Any] | tuple[Any, ...], kind: Kind | None) -> Now:
-    sets = [it._now for it in items if isinstance(it, Kept)]
-    others = (it for it in items if not isinstance(it, Kept) and not getattr(it, "isempty", False))
+    sets = [of_times(it._now, kind) for it in items if isinstance(it, Kept)]
+    others: Iterable[Any] = (it for it in items if not isinstance(it, Kept) and not getattr(it, "isempty", False))
+    if isinstance(kind, ADDRESSES):
+        others = _of_texts(others, kind)
     pairs = [ends_of(it, "a pair (start, end), a range or a set") for it in others]
     is_given = kind is not None
     if kind is None:

@@ -2,8 +2,6 @@
 
 from __future__ import annotations
 
-import re
-
 from . import _core
 from ._core import Boundaries
 from ._errors import ParseError
@@ -43,5 +41,7 @@ def _expected_after(front: str, unsigned: bool) -> str:
 
 def _first_out_of_range(text: str, unsigned: bool) -> int:
     """The position of the first number that is out of range, in a text of ranges."""
+    import re
+
     numbers = re.finditer("[-+0-9]+", text)
     return next(it.start() for it in numbers if _core.parse(f"{it.group()}..".encode(), unsigned) is None)

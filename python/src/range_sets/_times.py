@@ -3,9 +3,13 @@
 from __future__ import annotations
 
 from datetime import date, datetime, timedelta, timezone
-from typing import Any
 
+from . import _core
 from ._kind import LEAST, MOST, NAT, Kind, named, refuse_nat
+from ._typing import TYPE_CHECKING
+
+if TYPE_CHECKING:
+    from typing import Any
 
 _DAY, _MICROSECOND = timedelta(days=1), timedelta(microseconds=1)
 _FIRST_DAY = date(1970, 1, 1).toordinal()
@@ -42,6 +46,11 @@ class Dates(Timed):
             raise self.type_error(value)
         return value.toordinal() - _FIRST_DAY
 
+    def codes(self, values: list[Any]) -> list[int]:
+        if {*map(type, values)} != {date}:
+            return super().codes(values)
+        return [it - _FIRST_DAY for it in map(date.toordinal, values)]
+
     def value(self, code: int) -> date:
         return date.fromordinal(code + _FIRST_DAY)
 
@@ -53,26 +62,28 @@ class Times(Timed):
     """Times with a time zone or without one, by their microseconds from 1970 on. Those with one are kept in UTC."""
 
     def __init__(self, name: str, element: str, zone: timezone | None) -> None:
-        self.zone, self.first = zone, datetime(1970, 1, 1, tzinfo=zone)
-        least, most = ((it.replace(tzinfo=zone) - self.first) // _MICROSECOND for it in (datetime.min, datetime.max))
+        self.is_aware, self.first = zone is not None, datetime(1970, 1, 1, tzinfo=zone)
+        least, most = (self.code(it.replace(tzinfo=zone)) for it in (datetime.min, datetime.max))
         super().__init__(name, element, least, most, _MICROSECOND, "M8[us]", "times")
         self.span = ", of the years 1 to 9999" + " in UTC" * (zone is not None)
 
     def code(self, value: Any) -> int:
-        if type(value) is not datetime:
-            if not isinstance(value, datetime):
-                raise self.type_error(value)
+        code = _core.number_of_time(value, self.is_aware)
+        if code is None and isinstance(value, datetime) and type(value) is not datetime:
             _refuse_nanoseconds(value, "nanosecond")
-            value = datetime.combine(value.date(), value.timetz())
-        if (value.utcoffset() is None) != (self.zone is None):
+            code = _core.number_of_time(datetime.combine(value.date(), value.timetz()), self.is_aware)
+        if code is None:
             raise self.type_error(value)
-        return (value - self.first) // _MICROSECOND
+        return code
+
+    def codes(self, values: list[Any]) -> list[int]:
+        return _core.numbers_of_times(values, self.is_aware) or super().codes(values)
 
     def value(self, code: int) -> datetime:
         return self.first + code * _MICROSECOND
 
     def hint(self, name: str) -> str:
-        is_alike = self.zone is None and name.startswith("datetime64[")
+        is_alike = not self.is_aware and name.startswith("datetime64[")
         return f"; with kind={name!r} pandas' Timestamps make such a set" if is_alike else ""
 
 
@@ -85,9 +96,10 @@ class Deltas(Timed):
         )
 
     def code(self, value: Any) -> int:
-        if not isinstance(value, timedelta):
-            raise self.type_error(value)
-        _refuse_nanoseconds(value, "nanoseconds")
+        if type(value) is not timedelta:
+            if not isinstance(value, timedelta):
+                raise self.type_error(value)
+            _refuse_nanoseconds(value, "nanoseconds")
         return (value.days * 86_400 + value.seconds) * 1_000_000 + value.microseconds
 
     def value(self, code: int) -> timedelta:
@@ -111,6 +123,16 @@ class Numpys(Kind):
         if code == LEAST:
             raise ValueError(NAT)
         return code
+
+    def codes(self, values: list[Any]) -> list[int]:
+        import numpy
+
+        if {*map(type, values)} != {numpy.datetime64} or {it.dtype for it in values} != {self.dtype}:
+            return super().codes(values)
+        codes: list[int] = numpy.array(values).view("i8").tolist()
+        if LEAST in codes:
+            raise ValueError(NAT)
+        return codes
 
     def value(self, code: int) -> Any:
         return self.dtype.type(code, self._unit())
@@ -142,17 +164,21 @@ class Numpys(Kind):
         text, unit = str(value), self._unit()
         return f"numpy.datetime64({(text if self.dtype.type(text, unit) == value else self.code(value))!r}, '{unit}')"
 
+    def read(self, text: str) -> Any:
+        """The time of a text, as numpy reads it."""
+        import numpy
+
+        return self.of_unit(numpy.datetime64(text))
+
     def of_unit(self, given: Any) -> Any:
         """A time of another unit in this one, which has to have it."""
-        found = given.astype(self.dtype)
-        # NaT differs from itself.
-        if given == given and found.astype(given.dtype) != given:
-            raise ValueError(f"expected a time of whole {self._unit()} in 64 bits")
+        found, is_exact = in_unit(given, self.dtype)
+        if not is_exact:
+            raise inexact(self)
         return found
 
     def _unit(self) -> str:
-        name: str = self.dtype.name
-        return name[len("datetime64[") : -1]
+        return unit_of(self)
 
 
 def _refuse_nanoseconds(value: Any, part: str) -> None:
@@ -162,14 +188,34 @@ def _refuse_nanoseconds(value: Any, part: str) -> None:
         raise ValueError(f"expected microseconds, and {value!r} has nanoseconds: numpy's datetime64[ns] keep them")
 
 
+def in_unit(times: Any, dtype: Any) -> tuple[Any, Any]:
+    """Numpy's times in another unit, and for each whether it has that time, or NaT."""
+    found = times.astype(dtype)
+    return found, (found.astype(times.dtype) == times) | (times != times)
+
+
+def unit_of(kind: Kind) -> str:
+    """The unit of times, by numpy's name."""
+    name = str(kind.dtype)
+    return name[name.index("[") + 1 : -1]
+
+
+def inexact(kind: Kind) -> ValueError:
+    """The error of a time that lies between two of a kind, or beyond them."""
+    return ValueError(f"expected a time of whole {unit_of(kind)} in 64 bits")
+
+
 DATE, DELTA = Dates(), Deltas()
 NAIVE = Times("datetime", "a datetime without a time zone", None)
 AWARE = Times("datetime[UTC]", "a datetime with a time zone", timezone.utc)
-_OF_UNITS: dict[str, Kind] = {}
+_OF_DTYPES: dict[Any, Kind] = {}
 
 
 def of_dtype(dtype: Any) -> Kind:
     """The kind of numpy's times of a unit: one for each, also if two threads ask for it at once."""
-    if dtype.kind != "M" or "[" not in dtype.name:
-        raise TypeError(f"expected numpy's datetime64 of a unit, not {dtype.name}")
-    return _OF_UNITS.get(dtype.name) or _OF_UNITS.setdefault(dtype.name, Numpys(dtype.newbyteorder("=")))
+    if dtype not in _OF_DTYPES:
+        if dtype.kind != "M" or "[" not in dtype.name:
+            raise TypeError(f"expected numpy's datetime64 of a unit, not {dtype.name}")
+        native = dtype.newbyteorder("=")
+        _OF_DTYPES[dtype] = _OF_DTYPES.get(native) or _OF_DTYPES.setdefault(native, Numpys(native))
+    return _OF_DTYPES[dtype]

@@ -5,8 +5,8 @@
 
 size_t first_slot(const Numbers *self, uint64_t hash)
 {
-    /* Places of values, and pairs of numbers, often differ in a few bits alone. */
-    return (size_t)(hash * 0x9E3779B97F4A7C15u >> 32) & (self->room - 1);
+    /* Of values made one after the other, which lie side by side, so do the slots; those far apart are spread. */
+    return (size_t)((hash >> 4) + (hash >> 16) * 0x9E3779B97F4A7C15u) & (self->room - 1);
 }
 
 size_t next_number(const Numbers *self, uint64_t hash, size_t *slot)

@@ -35,10 +35,12 @@ static PyObject *keys_of(Steps *self, Range range, PyObject *value)
     uint64_t *items = PyMem_Malloc(8 * room);
     Sought sought = {value};
     Stretch it;
+    Walk walk;
     int is_one = 1;
     /* No value is dropped, so that none gets the number of one that was compared. */
     self->values.readers++;
-    for (Walk walk = {range}; items != NULL && step(self, &walk, &it);) {
+    begin_walk(self, range, &walk);
+    while (items != NULL && step(self, &walk, &it)) {
         if (value != NULL) is_one = it.value < sought.room ? sought.answers[it.value] : UNKNOWN;
         if (is_one == UNKNOWN) is_one = ask(self, &sought, it.value);
         if (is_one < 0) break;
@@ -85,7 +87,9 @@ PyObject *steps_ends_and_values(Steps *self, PyObject *unused)
         values = bytes == NULL ? NULL : PyTuple_New(len);
     } while (values != NULL && (self->len != len || self->undo_len > 0));
     Stretch it;
-    for (Walk walk = {ALL(self)}; values != NULL && step(self, &walk, &it); i++) {
+    Walk walk;
+    begin_walk(self, ALL(self), &walk);
+    for (; values != NULL && step(self, &walk, &it); i++) {
         uint64_t *ends = (uint64_t *)PyBytes_AS_STRING(bytes) + 2 * i;
         ends[0] = it.start;
         ends[1] = it.has_end ? it.end : LEAST(self);
@@ -102,15 +106,19 @@ PyObject *steps_equals(Steps *self, PyObject *object)
 {
     Steps *other = (Steps *)object;
     if (!Py_IS_TYPE(object, Py_TYPE(self))) return PyErr_Format(PyExc_TypeError, "expected another map");
+    Walk mine, theirs;
     bool more = true;
     int is_same = self->is_signed == other->is_signed;
-    for (Walk mine = {ALL(self)}, theirs = {ALL(other)}; is_same > 0 && more;) {
+    begin_walk(self, ALL(self), &mine);
+    begin_walk(other, ALL(other), &theirs);
+    while (is_same > 0 && more) {
         Stretch a, b;
         if (!settle(self) || !settle(other)) return NULL;
         is_same = self->len == other->len;
         more = step(self, &mine, &a);
-        if (is_same == 0 || step(other, &theirs, &b) != more) return Py_NewRef(Py_False);
-        if (!more) break;
+        is_same = is_same && step(other, &theirs, &b) == more;
+        if (PyErr_Occurred()) return NULL;
+        if (is_same == 0 || !more) break;
         is_same = a.start == b.start && a.has_end == b.has_end && (!a.has_end || a.end == b.end);
         if (is_same > 0) is_same = are_one(value_of(self, &a), value_of(other, &b));
     }
@@ -205,7 +213,8 @@ static PyObject *iterated(Steps *self, PyObject *const *args, Py_ssize_t n, bool
     Items *made = PyObject_GC_New(Items, &items_type);
     if (made == NULL) return NULL;
     made->steps = (Steps *)Py_NewRef(self);
-    made->walk = (Walk){.left = range, .is_done = is_reversed(range, self->is_signed)};
+    begin_walk(self, range, &made->walk);
+    made->walk.is_done = is_reversed(range, self->is_signed);
     made->len = self->len;
     made->given = 0;
     made->has_keys = has_keys;

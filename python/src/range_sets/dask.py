@@ -96,13 +96,13 @@ def _tree(pieces: list[Delayed], split_every: int, combine: Callable[[list[Any]]
     return root
 
 
-def _union(parts: Iterable[AnyRangeSet | Iterable[AnyRangeSet]]) -> RangeSet:
+def _union(parts: Iterable[AnyRangeSet[Any] | Iterable[AnyRangeSet[Any]]]) -> RangeSet[Any]:
     known = [*chain.from_iterable([it] if isinstance(it, AnyRangeSet) else it for it in parts)]
     # A part of nothing doesn't know which elements the others have.
     return RangeSet.union_all([it for it in known if it] or [it for it in known if it.kind is not None][-1:])
 
 
-def _cut_set(part: Any, cuts: list[Any]) -> list[RangeSet]:
+def _cut_set(part: Any, cuts: list[Any]) -> list[RangeSet[Any]]:
     """The pieces of a set, which lie in its memory. Each is the set from its cut to the next, and may go on beyond."""
     whole = part if isinstance(part, AnyRangeSet) else _union([part])
     if not whole:
@@ -114,30 +114,30 @@ def _cut_set(part: Any, cuts: list[Any]) -> list[RangeSet]:
     return [RangeSet._over(boundaries[start:end], kind) for start, end in zip(starts, ends)]
 
 
-def _clipped(piece: RangeSet, start: Any, end: Any) -> RangeSet:
+def _clipped(piece: RangeSet[Any], start: Any, end: Any) -> RangeSet[Any]:
     return piece & RangeSet([(start, end)], kind=piece.kind) if piece else piece
 
 
-def _cut_keys(part: Any, cuts: list[Any]) -> list[dict[Hashable, RangeSet]]:
+def _cut_keys(part: Any, cuts: list[Any]) -> list[dict[Hashable, RangeSet[Any]]]:
     """The sets of a part by their keys, in a dict for each key range."""
-    pieces: list[list[tuple[Hashable, AnyRangeSet]]] = [[] for _ in range(len(cuts) + 1)]
+    pieces: list[list[tuple[Hashable, AnyRangeSet[Any]]]] = [[] for _ in range(len(cuts) + 1)]
     for key, it in _pairs(part):
         pieces[bisect_right(cuts, key)].append((key, it))
     return [_union_by_key([piece]) for piece in pieces]
 
 
-def _union_by_key(parts: Iterable[Any]) -> dict[Hashable, RangeSet]:
-    by_key: dict[Hashable, list[AnyRangeSet]] = {}
+def _union_by_key(parts: Iterable[Any]) -> dict[Hashable, RangeSet[Any]]:
+    by_key: dict[Hashable, list[AnyRangeSet[Any]]] = {}
     for key, it in chain.from_iterable(map(_pairs, parts)):
         by_key.setdefault(key, []).append(it)
     return {key: _union(sets) for key, sets in by_key.items()}
 
 
-def _pairs(part: Any) -> Iterable[tuple[Any, AnyRangeSet]]:
+def _pairs(part: Any) -> Iterable[tuple[Any, AnyRangeSet[Any]]]:
     return part.items() if isinstance(part, Mapping) else part  # type: ignore[no-any-return]
 
 
-def _counted(by_key: dict[Hashable, RangeSet]) -> dict[Hashable, int | None]:
+def _counted(by_key: dict[Hashable, RangeSet[Any]]) -> dict[Hashable, int | None]:
     return {key: it.covered() for key, it in by_key.items()}
 
 
