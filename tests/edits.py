@@ -1,4 +1,5 @@
-"""Reads the mutants of a crate. Those of src/PATH.rt stand one below another in mutants/PATH.edits:
+"""Reads the mutants of a crate. Those of src/PATH.rt stand one below another in mutants/PATH.edits, a single one mostly in the
+file of its folder, with a line 'file:':
 
     mutant: new_is_never_made
     The set is refused.

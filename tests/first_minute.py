@@ -37,11 +37,25 @@ def holds(is_so, what, seen):
     return is_so
 
 
-def missing_rt(copy):
+def missing_rt(copy, when="without rt"):
     """Without rt, the script says what is missing and which page helps."""
+    status, printed, said = without_rt(copy)
+    return holds((status, printed) == (6, "") and said.startswith("range_calc: rt, ") and "README.md" in said, when, said)
+
+
+def without_rt(copy):
     folders = [it for it in os.environ["PATH"].split(":") if it and not Path(it, "rt").exists()]
-    status, printed, said, _ = run(["./range_calc", "union", "0,10", "20"], copy, ":".join(folders))
-    return holds((status, printed) == (6, "") and said.startswith("range_calc: rt, ") and "README.md" in said, "without rt", said)
+    return run(["./range_calc", "union", "0,10", "20"], copy, ":".join(folders))[:3]
+
+
+def another_source(copy):
+    """What was built stands for its sources alone, also where one comes with an older time."""
+    status, printed, errors = without_rt(copy)
+    yield holds((status, printed) == (0, "0,10,20\n"), "what was built runs without rt", (status, printed, errors))
+    source = copy / "crates/range_merge/src/lib.rt"
+    shutil.copy2(source, copy / "older")
+    shutil.copy2(copy / "older", source)
+    yield missing_rt(copy, "a source written anew with its old time")
 
 
 def first_lines(copy):
@@ -57,6 +71,7 @@ def first_lines(copy):
     yield holds(seen == (0, expected, "") and seconds < QUICK, "the second time", (*seen, seconds))
     status, printed, *_ = run([words[0], "contains", "3,2", "1"], copy)
     yield holds((status, printed) == (3, "not strictly sorted\n"), "words that are refused", (status, printed))
+    yield from another_source(copy)
     # One part stands for all of them, since these tests are a part too.
     status, printed, errors, _ = run([tests.split()[0], "pages"], copy)
     yield holds(status == 0 and re.search(r"\b0 failed", printed), tests, (status, printed[-300:], errors))

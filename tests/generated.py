@@ -36,6 +36,7 @@ INSTEAD = rows("""
     *: let _length = self.len(); → | let _length = (*self).len(); →
     *: let _number = *self; → | let _character = *self; →
     // What Rust 1.63 writes otherwise: `let .. else`, an attribute, and a formatter, which hides where it writes.
+    range_map/in_place: let Some(own) = key_at(steps, at) else { return Next { key, at, below: at, index: index + 1 }; }; → let own = match key_at(steps, at) { Some(own) => own, _ => { return Next { key, at, below: at, index: index + 1 } } };
     *: let PATH(NAME) = VALUE else { BLOCK; }; → let NAME = match VALUE { PATH(NAME) => NAME, _ => BLOCK, };
     *: #[unsafe(no_mangle)] → #[no_mangle] | <W: fmt::Write> → | , W: fmt::Write> → > | fmt::Formatter<W> → fmt::Formatter<'_>
     // Calls with an allocator, or later than Rust 1.63: of traits of rust/src/support.
@@ -43,7 +44,7 @@ INSTEAD = rows("""
     // A clone of Rust can't fail: one that can has another name.
     range_chunks/set/making, range_map/map/copying: fn clone( → fn try_clone(
     range_collections/range_set, range_collections/range_set_range: fn clone( → fn try_clone(
-    range_c/generated/mapped_i64, range_c/generated/mapped_u64: .clone() → .try_clone()
+    range_c/generated/mapped_i64, range_c/generated/mapped_u64, range_map/map/sets, range_map/map/union: .clone() → .try_clone()
     range_collections/view: fn clone(&self) -> Result<Self, AllocError> { Ok(*self) } → fn clone(&self) -> Self { *self }
     range_collections/view/cursor: fn clone(&self) -> Result<Self, AllocError> { Ok(*self) } → fn clone(&self) -> Self { *self }
     // An enum that may grow has to say so.

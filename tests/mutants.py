@@ -36,6 +36,8 @@ it calls.
 - `b_at`, `Status::code` of `range_calc_answers`: `a_at` and `exit_code` have one.
 - The exports of `range_c` for i32, u32 and u64, which are written from i64's.
 - `keeps` of a `MapFilter`, which only callers write.
+- None yet: relations, lengths, fits and pops of a `ChunkedRangeSet`, fits of a `ChunkedSpace`, `take_first_range`,
+  `take_last_range`, pops and `first_fit` of sets and views, and what makes a `RangeMap` of two or changes one by another or a set.
 """
 
 import argparse

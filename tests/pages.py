@@ -1,8 +1,8 @@
 #!/usr/bin/env python3
 """Whether the pages are true of the tree: links lead somewhere, files and names that a page gives are there, a word of the
-model is defined, what CALLING and PROVED quote of a source stands there, what there is to read for the claim has as many
-lines as PROVED says, each folder has the lines that ARCHITECTURE gives, and each rule there one file, each public call stands
-in CALLING or PROMISES, or on the page of its language, the table of calls is what tools/calls.py writes, each package has the
+model is defined and has one meaning in names (words.py), what CALLING and PROVED quote of a source stands there, what there is to read for the claim has as many
+lines as PROVED says, each folder has the lines that ARCHITECTURE gives, each rule of RULES is where it says (rules.py), each public call stands
+in CALLING or PROMISES, or on the page of its language, CALLS is what tools/calls.py writes, with a word for each hole, each package has the
 version of CHANGELOG, and no commit names a path of a machine in its message. Each check of a text has to find a fault on a
 made-up page. And which mutants a change has tried again, by the rows of record_rows.py, and whether the text of each mutant of
 Rust and C by hand stands once.
@@ -12,12 +12,10 @@ Rust and C by hand stands once.
 Its last line is 'N passed, M failed'. What fails is named with its page.
 """
 
-import os
 import re
 import subprocess
 import sys
 import tempfile
-from fnmatch import fnmatch
 from pathlib import Path
 
 ROOT = Path(__file__).resolve().parent.parent
@@ -25,8 +23,11 @@ sys.path.append(str(ROOT / "tools"))
 
 import c_mutants  # noqa: E402
 import calls as calls_by_language  # noqa: E402
+import folders  # noqa: E402
 import record_rows  # noqa: E402
+import rules  # noqa: E402
 import rust_mutants  # noqa: E402
+import words as model_words  # noqa: E402
 
 # The scripts with mutants of what is written by hand, the files that a mutant may be of, and what stands before those that it names.
 MUTANTS = {
@@ -36,8 +37,6 @@ MUTANTS = {
 # The last commit after which messages are looked at, since older ones can't change; and a path from the top of a machine.
 LOOKED_AT_AFTER = "e2d4ae28812c838a05c2da4608fb5749741a8887"
 OF_MACHINE = re.compile(r"(?<![\w./:*)\]}])(?:~|/[\w.-]+|[A-Z]:\\[\w.-]+)[/\\][\w.-]+")
-# Folders that hold what was built.
-BUILT = {"out", "target", "build", "__pycache__", ".git"}
 FENCED = re.compile(r"^```.*?^```", re.M | re.S)
 LINK = re.compile(r"\]\(([^)\s]+)\)")
 FILE = re.compile(r"[\w./-]*\w\.(?:rt|antt|py|sh|rs|c|h|hpp)\b")
@@ -52,11 +51,6 @@ READ = re.compile(r"(\d+) lines with their comments")
 STOOD_ON = re.compile(r"^They use (\d+) words of std: (.*)\.$", re.M)
 STD = re.compile(r"\buse Rattle\.std[\w.]*\.\{([^}]*)\}")
 MOST_TO_READ = 250
-# A table of rules, with the folder of their files, and one of its rows.
-RULES = re.compile(r"^Rule\|In ([\w./-]+)\n-+\|-+\n((?:[^\n]+\n)+)", re.M)
-# A folder and its lines, where ARCHITECTURE draws the tree, and by how much they may differ.
-DRAWN = re.compile(r"^([\w*/]+) +([\d,]+)(?:  .*)?$", re.M)
-ROUNDED = 0.15
 # The crates whose public calls a page has to have.
 PROVED = ("range_merge", "range_entry", "range_collections", "range_list", "range_chunks", "range_map", "range_tracker", "range_chunked_tracker", "range_calc_answers", "range_track_answers")
 # What a crate exports; what declares a call in Rattle: the type or trait that it belongs to, if any, and its name.
@@ -72,13 +66,6 @@ VERSIONED = ("c/Makefile", "c/include/range_set.h", "python/pyproject.toml", "py
 VERSION = re.compile(r'^(?:(?:__version__|version|VERSION) = |#define RANGE_SET_VERSION )"?(\d+\.\d+\.\d+)"?$', re.M)
 # What stands in code on a page and is no name of the sources: variables, and words of a clause.
 PLAIN = {"a", "b", "d", "e", "i", "l", "n", "w", "x", "y", "N", "M", "length", "of"}
-
-
-def files():
-    """All files of the repository but what was built, by their paths from its top."""
-    for folder, folders, names in os.walk(ROOT):
-        folders[:] = [it for it in folders if it not in BUILT]
-        yield from (str(Path(folder, it).relative_to(ROOT)) for it in names)
 
 
 def texts(paths, ending):
@@ -123,17 +110,6 @@ def wrong_files(page, paths):
     for file in sorted(set(FILE.findall(prose(page)))):
         if not any(path == file or path.endswith("/" + file.lstrip("./")) for path in paths):
             yield f"there is no file {file}"
-
-
-def wrong_rules(page, root):
-    """Rules for which the page doesn't name one file, or one folder, and tables of rules without the folder of their files."""
-    text = page.read_text(encoding="utf-8")
-    for folder, rows in RULES.findall(text):
-        for rule, _, file in (line.partition("|") for line in rows.splitlines()):
-            if not file or not (root / folder / file).exists():
-                yield f"the rule '{rule}' has no file in {folder}: {file}"
-    if len(RULES.findall(text)) != text.count("\nRule|"):
-        yield "a table of rules doesn't say in which folder their files are"
 
 
 def wrong_names(page, words):
@@ -184,27 +160,6 @@ def wrong_readings(page):
         total += int(lines)
     if [int(it) for it in READ.findall(prose(page))] != [total] or total > MOST_TO_READ:
         yield f"there are {total} lines to read for the headline"
-
-
-def lines_of(paths):
-    """How many lines the files have, of those that are text."""
-    return sum((ROOT / it).read_bytes().count(b"\n") for it in paths if not it.endswith((".png", ".a", ".pyc")))
-
-
-def wrong_lines(page, paths):
-    """Folders whose lines the page gives otherwise than they are. A file counts for the longest path that it lies below."""
-    drawn = {folder: int(lines.replace(",", "")) for folder, lines in DRAWN.findall(page.read_text(encoding="utf-8"))}
-    below = {folder: [] for folder in drawn}
-    for path in paths:
-        folders = [it for it in drawn if fnmatch(path, f"{it}/*")]
-        if folders:
-            below[max(folders, key=len)].append(path)
-    for folder, lines in drawn.items():
-        found = lines_of(below[folder])
-        if abs(found - lines) > max(ROUNDED * lines, 500):
-            yield f"{folder} has {found} lines"
-    if not drawn:
-        yield "no folder has its lines"
 
 
 def words_of_std(page):
@@ -299,11 +254,10 @@ def calls_beyond_the_crates(paths):
     layer = [it for it in paths if re.match(r"rust/src/(?!generated|support)", it) and it.endswith(".rs")]
     rust = {name for it in layer for name in re.findall(r"^ *pub fn (\w+)", read(it), re.M)}
     ours = {it for it in C_CALL.findall(read("c/include/range_set.h")) if not re.match(r"[iu](32|64)_", it)}
-    operators = {"!", *calls_by_language.OPERATORS.values()}
-    python = [f"python/src/range_sets/{it}.py" for it in ("_buffers", "_ranges", "_sets", "_maps", "dask")]
+    python = [f"python/src/range_sets/{it}.py" for it in ("_buffers", "_fits", "_map_tables", "_maps", "_moves", "_ranges", "_sets", "_tables", "dask")]
     yield "rust/README.md", rust
     yield "c/README.md", ours
-    yield "c/CPP.md", {name for _, name in calls_by_language.of_cpp() if name.removesuffix("_with") not in operators}
+    yield "c/CPP.md", {name for _, name in calls_by_language.of_cpp() if name.isidentifier()}
     yield "python/README.md", {name for it in python for name in PYTHON_CALL.findall(read(it))}
 
 
@@ -326,6 +280,29 @@ def messages():
     return [it.partition(" ")[::2] for it in said.split("\0") if it]
 
 
+def shown(commit):
+    """What a commit adds, or nothing without a history that has it."""
+    words = ["git", "show", "--format=", commit]
+    try:
+        lines = subprocess.run(words, cwd=ROOT, capture_output=True, text=True, check=True).stdout.splitlines()
+    except (OSError, subprocess.CalledProcessError):
+        return None
+    return "".join(f"{it[1:]}\n" for it in lines if it.startswith("+"))
+
+
+def wrong_commits(page, shown_by):
+    """Commits that a page names and the history lacks, and code that it quotes otherwise than the one has it that it follows."""
+    text = page.read_text(encoding="utf-8")
+    followed = re.search(r"`git show (\w+)`", text)
+    added = shown_by(followed[1]) if followed else None
+    if added is None:
+        return
+    yield from (f"there is no commit {it}" for it in sorted(set(re.findall(r"\b(?=\w*\d)[0-9a-f]{8}\b", prose(page)))) if shown_by(it) is None)
+    for block in re.findall(r"^```rust\n(.*?)^```", text, re.M | re.S):
+        if block not in added:
+            yield f"{followed[1]} hasn't the lines that begin with {block.splitlines()[0].strip()}"
+
+
 def missing_calls(calls, words):
     """The calls that no page has. A form with a counter goes with the call that it is of."""
     for call in sorted(calls):
@@ -339,21 +316,33 @@ def faults_found():
         root = Path(folder)
         page, other = root / "page.md", root / "other.md"
         other.write_text("three four\n", encoding="utf-8")
-        rules = "\n# A\n\nRule|In src\n---|---\n"
         (root / "src").mkdir()
-        (root / "src/a.rt").write_text("", encoding="utf-8")
+        (root / "src/a.rt").write_text("fn b() {}\n", encoding="utf-8")
+        row = f"{rules.HEAD}x|src/a.rt|`b`\n"
+        (root / "crates/range_a/src").mkdir(parents=True)
+        (root / "crates/range_a/src/b.rt").write_text("const C: usize = 7;\n", encoding="utf-8")
+        limit = "`C` in range_a/src/b.rt|7|x\n"
         for name, check, good, bad in (
             ("a link to no file", lambda: wrong_links(page), "[a](page.md)\n", "[a](pages.md)\n"),
             ("a link to no heading", lambda: wrong_links(page), "# A\n[a](#a)\n", "# A\n[a](#b)\n"),
             ("a file that isn't there", lambda: wrong_files(page, ["src/a.rt"]), "a.rt\n", "a.rt, b.rt\n"),
-            ("a rule with no file", lambda: wrong_rules(page, root), f"{rules}x|a.rt\n", f"{rules}x|b.rt\n"),
-            ("a rule with an empty cell", lambda: wrong_rules(page, root), f"{rules}x|a.rt\n", f"{rules}x|\n"),
-            ("a rule with two files", lambda: wrong_rules(page, root), f"{rules}x|a.rt\n", f"{rules}x|a.rt, a.rt\n"),
-            ("a rule with two cells", lambda: wrong_rules(page, root), f"{rules}x|a.rt\n", f"{rules}x|a.rt|a.rt\n"),
-            ("rules without a folder", lambda: wrong_rules(page, root), f"{rules}x|a.rt\n", "\nRule|File\n---|---\nx|a.rt\n"),
+            ("a rule with no file", lambda: rules.wrong_rows(page, root), row, row.replace("a.rt", "b.rt")),
+            ("a rule with two files", lambda: rules.wrong_rows(page, root), row, row.replace("a.rt", "a.rt, src/a.rt")),
+            ("a rule with nothing to look for", lambda: rules.wrong_rows(page, root), row, row.replace("`b`", "")),
+            ("a rule that isn't there", lambda: rules.wrong_rows(page, root), row, row.replace("`b`", "`c`")),
+            ("a rule that is there once of two", lambda: rules.wrong_rows(page, root), row, row.replace("`b`", "`b`, `c`")),
+            ("a rule that stands twice", lambda: rules.wrong_rows(page, root), row, f"{row}x|src/a.rt|`b`\n"),
+            ("rules below another head", lambda: rules.wrong_rows(page, root), row, f"{row}\nRule|File\n---|---\ny|src/a.rt\n"),
+            ("a constant without a row", lambda: rules.wrong_limits(page, root / "crates"), limit, "\n"),
+            ("a row of no constant", lambda: rules.wrong_limits(page, root / "crates"), limit, limit + limit.replace("|7|", "|8|")),
+            ("a definition without a rule", lambda: rules.missing(page, rules.words_of_model(page)), f"{row}\n`b x`|\n", f"{row}\n`c x`|\n"),
+            ("a call without a rule", lambda: rules.missing(page, rules.words_of_promises(page)), f"{row}\nCalls|A\n---|---\n`b`|\n", f"{row}\nCalls|A\n---|---\n`c`|\n"),
+            ("a call with a condition, and no rule", lambda: rules.missing(page, rules.words_of_promises(page)), f"{row}\nCondition|A\n---|---\n|`b`\n", f"{row}\nCondition|A\n---|---\n|`c`\n"),
             ("a name that no source has", lambda: wrong_names(page, {"known"}), "`known`\n", "`unknown`\n"),
             ("a message with a path", lambda: OF_MACHINE.findall(prose(page)), "Merge branch 'a/b': 1/2 of ./c, https://d.e/f\n", "Merge branch 'a' of /home/b\n"),
             ("a message with a home", lambda: OF_MACHINE.findall(prose(page)), "~ is not, /\n", "in ~/b\n"),
+            ("a commit that isn't there", lambda: wrong_commits(page, {"a0": ""}.get), "`git show a0`\n", "`git show a0`, 12345678\n"),
+            ("code that a commit hasn't", lambda: wrong_commits(page, {"a0": "b\n"}.get), "`git show a0`\n```rust\nb\n```\n", "`git show a0`\n```rust\nc\n```\n"),
             ("a word without a definition", lambda: undefined_words(page, {"member"}), "`member`|says\n", "`members`|says\n"),
         ):
             found = []
@@ -361,10 +350,34 @@ def faults_found():
                 page.write_text(text, encoding="utf-8")
                 found.append(len(list(check())))
             yield name, found == [0, 1]
+    for name, row, paths in (
+        ("a folder with other numbers", "docs 99 0  pages  x", ["docs/page.png"]),
+        ("a file in no folder", "docs 1 0  pages  x", ["docs/page.png", "web/a.png"]),
+        ("no table of folders", "docs", []),
+    ):
+        good = list(folders.faults("docs 1 0  pages  x", ["docs/page.png"]))
+        yield name, not good and len(list(folders.faults(row, paths))) == 1
+    table = "\n## Words\n" + "".join(f"{it}|\n" for it in model_words.WORDS)
+    for name, text, left, page in (
+        ("a word used otherwise", "fn first_row() {}\n", "", table),
+        ("a word of a side used otherwise", "fn puts_left() {}\n", "", table),
+        ("a name on the list that is gone", "fn first_fit() {}\n", "row: a/first_row\n", table),
+        ("a word that the model lacks", "fn put_left() {}\nfn put_right() {}\n", "", table.replace("row|", "")),
+    ):
+        yield name, len(list(model_words.faults([("a/src/b.rt", text)], left, page))) == 1
+    calls, holes = (it.read_text(encoding="utf-8") for it in (calls_by_language.PAGE, calls_by_language.HOLES))
+    for name, bad, other in (
+        ("a cell with another name", calls.replace("|`print`|", "|`text`|"), holes),
+        ("a hole without a word", calls.replace("`cursor`|`cursor`|`cursor`|other", "`cursor`|`cursor`|`cursor`|?", 1), holes.replace(": cursor ", ": ", 1)),
+        ("a word for no hole", calls, holes.replace(" clear covered_within", " clear contains covered_within", 1)),
+        ("a word that isn't explained", calls.replace("- **loop**", "- loop"), holes),
+        ("a word that no hole has", calls.replace("- **loop**", "- **rare**: it is.\n- **loop**"), holes),
+    ):
+        yield name, len(list(calls_by_language.faults(bad, other))) == 1
 
 
 def main():
-    paths = sorted(files())
+    paths = sorted(folders.files())
     pages = [ROOT / it for it in paths if it.endswith(".md")]
     sources = texts(paths, ".rt")
     specs = texts([it for it in paths if "/specs/" in it], ".antt")
@@ -375,18 +388,23 @@ def main():
     checks = [(it, "links", list(wrong_links(it))) for it in pages]
     checks += [(docs / it, "files", list(wrong_files(docs / it, paths))) for it in ("PROVED.md", "PROMISES.md", "ARCHITECTURE.md", "SECURITY.md")]
     checks += [(ROOT / "CONTRIBUTING.md", "files", list(wrong_files(ROOT / "CONTRIBUTING.md", paths)))]
+    checks += [(ROOT / "CONTRIBUTING.md", "commits", list(wrong_commits(ROOT / "CONTRIBUTING.md", shown)))]
     checks += [(docs / "PROMISES.md", "names", list(wrong_names(docs / "PROMISES.md", words)))]
     checks += [(docs / it, "names", list(wrong_names(docs / it, beyond))) for it in ("PROVED.md", "SECURITY.md")]
     checks += [(docs / "MODEL.md", "words", list(undefined_words(docs / "MODEL.md", defined)))]
+    table = (docs / "MODEL.md").read_text(encoding="utf-8")
+    checks += [(model_words.LEFT, "names", list(model_words.faults(model_words.sources(), model_words.LEFT.read_text(encoding="utf-8"), table)))]
     calling = ROOT / "crates/range_collections/CALLING.md"
     checks += [(calling, "quotes", list(wrong_quotes(calling, "rust", sources)))]
     merging = ROOT / "crates/range_merge/CALLING.md"
     checks += [(merging, "quotes", list(wrong_quotes(merging, "rust", sources, quoted="")))]
     checks += [(docs / "PROVED.md", "quotes", list(wrong_quotes(docs / "PROVED.md", "antt", specs)))]
     checks += [(docs / "PROVED.md", "lines to read", list(wrong_readings(docs / "PROVED.md")))]
-    checks += [(docs / "ARCHITECTURE.md", "lines of folders", list(wrong_lines(docs / "ARCHITECTURE.md", paths)))]
+    checks += [(docs / "ARCHITECTURE.md", "folders", list(folders.faults((docs / "ARCHITECTURE.md").read_text(encoding="utf-8"), paths)))]
     checks += [(docs / "PROVED.md", "words of std", list(wrong_words_of_std(docs / "PROVED.md")))]
-    checks += [(docs / "ARCHITECTURE.md", "rules", list(wrong_rules(docs / "ARCHITECTURE.md", ROOT)))]
+    words_of_rules = {*rules.words_of_model(docs / "MODEL.md"), *rules.words_of_promises(docs / "PROMISES.md")}
+    checks += [(docs / "ARCHITECTURE.md", "limits", list(rules.wrong_limits(docs / "ARCHITECTURE.md")))]
+    checks += [(rules.PAGE, "rules", [*rules.wrong_rows(rules.PAGE), *rules.missing(rules.PAGE, words_of_rules)])]
     checks += [(ROOT / "CHANGELOG.md", "versions", list(wrong_versions(ROOT / "CHANGELOG.md")))]
     checks += [(ROOT, f"message of {name}", OF_MACHINE.findall(text)) for name, text in messages()]
     checks += [(ROOT / "tests/pages.py", name, [] if found else ["its check doesn't find it"]) for name, found in faults_found()]
@@ -400,8 +418,8 @@ def main():
         found = [f"there is no call {it}" for it in sorted(prefixed - calls)]
         found += missing_calls(calls, prefixed | words_in_code([ROOT / page]))
         checks.append((ROOT / page, "public calls", found))
-    written = [] if calls_by_language.is_written() else ["tools/calls.py writes another table"]
-    checks.append((docs / "DIFFERENCES.md", "calls", written))
+    texts_of_calls = [it.read_text(encoding="utf-8") for it in (calls_by_language.PAGE, calls_by_language.HOLES)]
+    checks.append((docs / "CALLS.md", "calls", list(calls_by_language.faults(*texts_of_calls))))
     checks += [(ROOT / "tests/record_rows.py", name, [] if holds else ["it doesn't hold"]) for name, holds in record_rows.rows()]
     checks += [(ROOT / "tests" / name, "texts", [*texts_amiss(*by)]) for name, by in MUTANTS.items()]
     failed = 0

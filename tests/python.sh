@@ -208,6 +208,7 @@ step "the first line of the page" prints_the_difference
 step "the tests" tests
 step_with numpy python3-numpy "the tests with numpy" tests -p with_numpy.py
 step_with pandas python3-pandas "the tests with pandas" tests -p with_pandas.py
+step_with pandas python3-pandas "tables and masks" tests -p with_tables.py
 if command -v initdb >/dev/null || ls /usr/lib/postgresql/*/bin/initdb >/dev/null 2>&1; then
     step "the tests beside PostgreSQL" tests -p with_postgres.py
     has "$venv" psycopg || skip "what psycopg makes of multiranges" "$python has no psycopg; on Debian: python3-psycopg"

@@ -21,7 +21,7 @@ PLANTED = [
     ("range_merge/runs", "2 * low - 1", "2 * low + 1", "fn doubled"),
     ("range_merge/fast/rounds", "const READ_FROM: usize = 24;", "const READ_FROM: usize = 25;", "const READ_FROM"),
     ("range_list/place", "Place = Place { chunk: 0, index: 0 }", "Place = Place { chunk: 0, index: 1 }", "const FRONT"),
-    ("range_tracker/limit", "boundaries > limit", "boundaries > limit + 1", "fn within_limit"),
+    ("range_tracker/track_error", "boundaries > limit", "boundaries > limit + 1", "fn within_limit"),
     ("range_collections/parse", '"a comma or the end"', '"a comma or the  end"', "Display for Expected / fn fmt"),
     # A statement that is dropped, added, or moved.
     ("range_collections/range_set/insertion", "        self.insert(range)?;\n", "", "fn insert_changed"),
@@ -30,7 +30,7 @@ PLANTED = [
     # A check that is removed, another way of an error, an arm.
     ("range_merge/runs", "    if side.len() < 2 {\n        return Below { len: 1, next: None };\n    }\n", "", "fn gallop"),
     ("range_tracker/tracker", "self.admit(&range, &DiffOp)?;", "let _ = self.admit(&range, &DiffOp);", "impl Tracker / fn forget"),
-    ("range_tracker/limit", "Err(TrackError::TooMany { boundaries })", "Ok(())", "fn within_limit"),
+    ("range_tracker/track_error", "Err(TrackError::TooMany { boundaries })", "Ok(())", "fn within_limit"),
     ("range_merge/merging", "        (0, 0) => Ok(true),", "        (0, 0) => Ok(false),", "fn take_rest"),
     ("range_merge/merging", "Some(n) => Some(n - 1),", "Some(n) => { Some(n) },", "fn one_less"),
     # An argument, a receiver, a call.
@@ -39,7 +39,7 @@ PLANTED = [
     ("range_merge/runs", "self.0.b_at(i)", "self.0.a_at(i)", "for RightOf < '_ , S > / fn at"),
     ("range_collections/range_set/insertion", "set_range(&mut self.list, range, true, count)", "set_range(&mut self.list, range, false, count)", "fn insert_counted"),
     # A signature: a type, a bound, an attribute, who may call it.
-    ("range_tracker/limit", "boundaries: usize, limit: usize", "limit: usize, boundaries: usize", "fn within_limit"),
+    ("range_tracker/track_error", "boundaries: usize, limit: usize", "limit: usize, boundaries: usize", "fn within_limit"),
     ("range_merge/merging", "fn advance_left<S: MergeStateMut>", "fn advance_left<S: MergeState>", "fn advance_left"),
     ("range_merge/operations", "#[derive(Clone, Copy, Debug, PartialEq, Eq)]\npub struct Connective", "pub struct Connective", "struct Connective"),
     ("range_merge/runs", "\nfn doubled", "\npub fn doubled", "fn doubled"),

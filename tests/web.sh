@@ -23,9 +23,9 @@ as_listed() {
     (cd web/built && sha256sum --check --strict --quiet SHA256SUMS)
 }
 
-# Whether what is built is less than 310 KB.
+# Whether what is built is less than 315 KB.
 small() {
-    [ "$(cat web/built/*.js | wc -c)" -lt 310000 ]
+    [ "$(cat web/built/*.js | wc -c)" -lt 315000 ]
 }
 
 # Whether a page from disk can do without all that the scripts ask for: no module, no request, no

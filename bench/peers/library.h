@@ -1,5 +1,5 @@
 // What the static library of the crate range_bench exports. A list is strictly sorted. What makes a set writes the front
-// of its boundaries to `out`, as far as `out_len` reaches, drops it, and answers how many it has, or SIZE_MAX where
+// of its boundaries to `out`, as far as `out_len` reaches, drops it, and returns how many it has, or SIZE_MAX where
 // memory is refused.
 #ifndef LIBRARY_H
 #define LIBRARY_H

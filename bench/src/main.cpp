@@ -158,7 +158,7 @@ extern "C" __attribute__((noinline)) std::size_t counted(Peer& peer, Task task, 
     return sum;
 }
 
-// What `bench/count` asks for: the contender, the shape, the size and the task by their names. The answer is the number
+// What `bench/count` asks for: the contender, the shape, the size and the task by their names. It prints the number
 // of boundaries of both sides that each pass sees.
 void count(const Peers& peers, const std::string& name, const std::string& shape, const std::string& size,
            const std::string& task_name) {

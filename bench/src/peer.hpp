@@ -58,7 +58,7 @@ public:
     virtual bool fits(const Case& that) const = 0;
     virtual void load(const Case& that) = 0;
 
-    // The task on every pair of the case; a set that is made is dropped. The answer sums up the answers.
+    // The task on every pair of the case; a set that is made is dropped. It returns the sum of the results.
     virtual std::size_t pass(Task task) = 0;
 
     // The boundaries that a pair gives, of a task that makes a set.
