@@ -1,11 +1,12 @@
 #!/usr/bin/env python3
-"""Whether each file of rust/src/generated is its proved source less contracts, ghosts and comments.
+"""Whether each module of rust/src/generated is its proved source less contracts, ghosts and comments.
 
     tests/generated.py
 
-It shares nothing with tools/plain-rust, which writes those files. It reads both texts by a tokenizer of its own, and
-compares each function, each other item and each `use` under its name, token by token. What may differ stands in the
-tables below. A row is of the files that it names, or by `*` of every file. One that nothing needs fails too.
+It shares nothing with tools/plain-rust, which writes a file for each crate, with a module for each of the crate's files.
+It reads both texts by a tokenizer of its own, and compares each function, each other item and each `use` under its name,
+token by token. What may differ stands in the tables below. A row is of the files that it names, or by `*` of every file.
+One that nothing needs fails too.
 """
 
 import re
@@ -136,6 +137,20 @@ def past(words, i):
     return i + 1
 
 
+def modules(words, file):
+    """The modules of a generated file, by their sources: the tokens of each, where those of another one are `mod name ;`."""
+    own, i = [], 0
+    while i < len(words):
+        own.append(words[i])
+        i += 1
+        if words[i - 2 : i - 1] == ["mod"] and words[i] == "{":
+            end = past(words, i)
+            yield from modules(words[i + 1 : end - 1], f"{file.removesuffix('/mod')}/{own[-1]}")
+            own.append(";")
+            i = end
+    yield file, own
+
+
 def next_of(ends, words, i):
     """The place of the next of these tokens that is in no brackets."""
     while words[i] not in ends:
@@ -163,7 +178,7 @@ def bare(words):
 
 def laid_out(words):
     """The tokens in one line, without a list's last comma and braces around an arm's value, where rustfmt has a choice."""
-    text = re.sub(r"=> \{ ([^{};]+) \}(?: ,)?", r"=> \1 ,", " ".join(words))
+    text = re.sub(r"=> \{ ((?:[^{};]|\{[^{};]*\})+) \}(?: ,)?", r"=> \1 ,", " ".join(words))
     return re.sub(r" ,(?= [)\]}>])", "", text)
 
 
@@ -237,11 +252,11 @@ def is_right(name, ours, theirs, file, used):
 
 
 def differences(file, source, generated, used):
-    """What differs in a file, by the names of its items, and how many functions were compared."""
+    """What differs of a module's tokens, by the names of its items, and how many functions were compared."""
     ours, theirs, found = defaultdict(str), defaultdict(str), {}
     for name, text in items(laid_out(rewritten(laid_out(bare(tokens(source))) + " ", file, used).split()).split()):
         ours[name.replace("proved_", "plain_")] += exported(text) if name.startswith("fn proved_") else text
-    for name, text in items(re.sub(SAID, "", laid_out(tokens(generated))).split()):
+    for name, text in items(re.sub(SAID, "", laid_out(generated)).split()):
         theirs[name] += text
     for name in {**ours, **theirs}:
         if not is_right(name, ours.get(name, ""), theirs.get(name, ""), file, used):
@@ -254,20 +269,22 @@ def differences(file, source, generated, used):
     return found, sum(" fn " in f" {name}" for name in ours if name in theirs)
 
 
+def source_of(file):
+    crate, _, inside = file.partition("/")
+    return (SOURCES / crate / "src" / f"{'lib' if inside == 'mod' else inside}.rt").read_text()
+
+
 def main():
-    used, said, functions, files = Counter(), [], 0, sorted(GENERATED.rglob("*.rs"))
-    for path in files:
-        crate, _, inside = path.relative_to(GENERATED).with_suffix("").as_posix().partition("/")
-        if not inside:
-            said += [] if tokens(path.read_text()) == tokens(TOP) else [f"{path.name}: it isn't what TOP says"]
-            continue
-        source = SOURCES / crate / "src" / f"{'lib' if inside == 'mod' else inside}.rt"
-        found, count = differences(f"{crate}/{inside}", source.read_text(), path.read_text(), used)
-        said += [f"{crate}/{inside}.rs: {name}: {it}" for name, it in found.items()]
-        functions += count
+    used, functions, count = Counter(), 0, 0
+    said = [] if tokens((GENERATED / "mod.rs").read_text()) == tokens(TOP) else ["mod.rs: it isn't what TOP says"]
+    for crate in CRATES:
+        for file, words in modules(tokens((GENERATED / f"{crate}.rs").read_text()), f"{crate}/mod"):
+            found, compared = differences(file, source_of(file), words, used)
+            said += [f"{file}: {name}: {it}" for name, it in found.items()]
+            functions, count = functions + compared, count + 1
     all_rows = [*INSTEAD, *LEFT_OUT, *ADDED, *(("*", f"use crate :: support :: {it}") for it in SUPPORT)]
     said += [f"a row of no use: {': '.join(row)}" for row in all_rows if not used[row]]
-    print(*said, f"{functions} functions in {len(files)} files, {len(said)} differences", sep="\n")
+    print(*said, f"{functions} functions in {count} modules, {len(said)} differences", sep="\n")
     return 1 if said else 0
 
 

@@ -16,10 +16,12 @@ trap 'rm -rf "$work"' EXIT
 
 # Unsafe code is forbidden in each crate but range_c, which has it where its exports make slices of what C passes.
 is_safe() {
-    local root=rust/src/generated/mod.rs exports=rust/src/generated/range_c/generated
+    local root=rust/src/generated/mod.rs crate=rust/src/generated/range_c.rs exports=$work/exports
+    sed -n '/^pub(crate) mod generated {$/,/^}$/p' $crate >"$exports"
     [ "$(grep -A 1 -Fx '#[forbid(unsafe_code)]' $root | grep -c '^pub mod')" = "$(grep '^pub mod' $root | grep -vc ' range_c;')" ] &&
-        ! grep -rl unsafe rust/src/generated | grep -v "^$root$\|^$exports/" && grep -rqh unsafe $exports &&
-        ! grep -rh unsafe $exports | grep -vE '^(pub unsafe extern "C" fn .*|    let \w+ = unsafe \{ (items|room)_at\(\w+, \w+_len\) \};)$'
+        ! grep -rl unsafe rust/src/generated | grep -vFx -e $root -e $crate && grep -q unsafe "$exports" &&
+        [ "$(grep -c unsafe $crate)" = "$(grep -c unsafe "$exports")" ] &&
+        ! grep unsafe "$exports" | grep -vE '^ {8}(pub unsafe extern "C" fn .*|    let \w+ = unsafe \{ (items|room)_at\(\w+, \w+_len\) \};)$'
 }
 
 # The check names a generated file that was edited, and fails.

@@ -6,6 +6,7 @@
 
 import re
 import sys
+import textwrap
 import unittest
 from collections import Counter
 from unittest import mock
@@ -48,8 +49,7 @@ PLANTED = [
     ("range_merge/runs", "impl<S: MergeState> Indexed<S::Item> for LeftOf", "impl<S: MergeState> Drop for RightOf<'_, S> {}\nimpl<S: MergeState> Indexed<S::Item> for LeftOf", "Drop for RightOf < '_ , S >"),
     ("range_merge/merging", "    /// The state stopped.\n    Stopped,", "    Stopped,\n    Lost,", "enum Went"),
     ("range_merge/runs", "    low: usize,\n    high: usize,\n    next: Option<Ordering>,\n}", "    low: usize,\n    next: Option<Ordering>,\n}", "struct Bracket"),
-    ("range_merge/mod", "pub(crate) mod runs;\n", "", "mod runs"),
-    ("range_merge/mod", "pub(crate) mod runs;\n", '#[path = "other.rs"]\npub(crate) mod runs;\n', "mod runs"),
+    ("range_merge/mod", "pub(crate) mod runs {", "#[cfg(test)]\npub(crate) mod runs {", "mod runs"),
     # A name from elsewhere.
     ("range_merge/runs", "::range_merge::compare::Compare;", "::range_merge::merging::Compare;", "use crate :: generated :: range_merge :: merging :: Compare"),
     ("range_merge/merging", "use crate::support::AllocError;", "use crate::support::{merge, AllocError};", "use crate :: support :: merge"),
@@ -73,17 +73,24 @@ OF_PROOFS = [
 ]
 
 
-def source_of(file):
-    crate, inside = file.split("/", 1)
-    return (generated.SOURCES / crate / "src" / f"{'lib' if inside == 'mod' else inside}.rt").read_text()
-
-
 def generated_of(file):
-    return (generated.GENERATED / f"{file}.rs").read_text()
+    """The text of a module, with the modules that it has."""
+    crate, *names = file.removesuffix("/mod").split("/")
+    text = (generated.GENERATED / f"{crate}.rs").read_text()
+    for name in names:
+        text = textwrap.dedent(re.search(rf"^pub(?:\(crate\))? mod {name} \{{\n(.*?)^\}}", text, re.M | re.S)[1])
+    return text
+
+
+def all_modules(change=lambda text: text):
+    """The modules of all crates, after a change of each crate's text."""
+    for crate in generated.CRATES:
+        yield from generated.modules(generated.tokens(change(generated_of(crate))), f"{crate}/mod")
 
 
 def named(file, source=None, text=None):
-    return generated.differences(file, source or source_of(file), text or generated_of(file), Counter())[0]
+    *_, (_, words) = generated.modules(generated.tokens(text or generated_of(file)), file)
+    return generated.differences(file, source or generated.source_of(file), words, Counter())[0]
 
 
 def planted(test, text, old, new):
@@ -106,23 +113,32 @@ class Planted(unittest.TestCase):
         text = text.replace(left, moved[left]).replace(right, moved[right])
         self.assertEqual(list(named("range_merge/merging", text=text)), ["fn advance_left", "fn advance_right"])
 
+    def test_a_module_that_goes(self):
+        text = generated_of("range_merge/mod")
+        text = text[: text.index("pub(crate) mod runs {")] + text[text.index("pub(crate) mod fast {") :]
+        self.assertEqual(list(named("range_merge/mod", text=text)), ["mod runs"])
+
     def test_a_statement_in_each_function(self):
-        """Of all files at once: each function that has a body is named."""
-        functions = 0
-        for path in sorted(generated.GENERATED.glob("*/**/*.rs")):
-            file = path.relative_to(generated.GENERATED).with_suffix("").as_posix()
-            text = re.sub(r"//[^\n]*", "", path.read_text())
-            text, count = re.subn(r"(\bfn \w+[^;{]*\{)", r"\1 planted();", text)
-            self.assertEqual(len(named(file, text=text)), count, file)
-            functions += count
-        self.assertGreater(functions, 1400)
+        """Of all modules at once: each function that has a body is named."""
+        functions = Counter()
+
+        def changed(text):
+            text, functions["planted"] = re.subn(r"(\bfn \w+[^;{]*\{)", r"\1 planted();", re.sub(r"//[^\n]*", "", text))
+            functions["in all"] += functions["planted"]
+            return text
+
+        for file, words in all_modules(changed):
+            found = generated.differences(file, generated.source_of(file), words, Counter())[0]
+            functions["planted"] -= len(found)
+            if file.endswith("/mod"):
+                self.assertEqual(functions["planted"], 0, file)
+        self.assertGreater(functions["in all"], 1400)
 
     def test_each_item_that_goes(self):
-        """Of all files at once: no row of LEFT_OUT is of an item that the generated file has."""
+        """Of all modules at once: no row of LEFT_OUT is of an item that the module has."""
         gone = 0
-        for path in sorted(generated.GENERATED.glob("*/**/*.rs")):
-            file = path.relative_to(generated.GENERATED).with_suffix("").as_posix()
-            said, text = named(file, text="\n"), re.sub(generated.SAID, "", generated.laid_out(generated.tokens(path.read_text())))
+        for file, words in all_modules():
+            said, text = named(file, text="\n"), re.sub(generated.SAID, "", generated.laid_out(words))
             names = {name for name, _ in generated.items(text.split()) if not name.startswith("use ")}
             added = {it for it in names for row in generated.ADDED if row[0] == file and f" {row[1]} " in it}
             self.assertEqual(names - said.keys(), added, file)
@@ -132,16 +148,16 @@ class Planted(unittest.TestCase):
     def test_contracts_alone(self):
         for file, old, new in OF_PROOFS:
             with self.subTest(file=file, new=new):
-                self.assertEqual(named(file, source=planted(self, source_of(file), old, new)), {})
+                self.assertEqual(named(file, source=planted(self, generated.source_of(file), old, new)), {})
 
     def test_a_source_that_changes(self):
-        source = planted(self, source_of("range_merge/runs"), "low <= len / 2", "low < len / 2")
+        source = planted(self, generated.source_of("range_merge/runs"), "low <= len / 2", "low < len / 2")
         self.assertEqual(len(named("range_merge/runs", source=source)), 1)
 
     def test_what_is_left_out_does_nothing(self):
-        source = planted(self, source_of("range_merge/in_place/owned"), "fn left_items_stay() {}", "fn left_items_stay() { wrong() }")
+        source = planted(self, generated.source_of("range_merge/in_place/owned"), "fn left_items_stay() {}", "fn left_items_stay() { wrong() }")
         self.assertEqual(len(named("range_merge/in_place/owned", source=source)), 1)
-        source = planted(self, source_of("range_chunks/set"), "let Self { list: _list } = self;", "wrong(self)")
+        source = planted(self, generated.source_of("range_chunks/set"), "let Self { list: _list } = self;", "wrong(self)")
         self.assertEqual(len(named("range_chunks/set", source=source)), 1)
 
     def test_a_row_of_no_use(self):

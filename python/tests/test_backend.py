@@ -146,7 +146,7 @@ class Written(unittest.TestCase):
             "c/include/range_set.h",
             "rust/Cargo.toml",
             "rust/src/lib.rs",
-            "rust/src/generated/range_c/generated/sets_i64.rs",
+            "rust/src/generated/range_c.rs",
         )
         for it in ("pyproject.toml", "backend.py", "README.md", "PKG-INFO", *sources):
             self.assertIn(f"range_sets-0.4.0/{it}", names)

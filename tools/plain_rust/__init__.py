@@ -1,1 +1,0 @@
-"""Writes the crates of Rattle as plain Rust, without their contracts."""
