@@ -1,5 +1,5 @@
-"""Reads the mutants of a crate. Those of src/PATH.rt stand one below another in mutants/PATH.edits, a single one mostly in the
-file of its folder, with a line 'file:':
+"""Reads the mutants of a crate. Those of src/NAME.rt stand one below another in mutants/NAME.edits, and after them those of
+each file below src/NAME/, under a line 'source:'. So do those of a small module in lib.edits:
 
     mutant: new_is_never_made
     The set is refused.
@@ -7,11 +7,15 @@ file of its folder, with a line 'file:':
     old: Ok(Set { list })
     new: Err(AllocError)
 
+    source: src/MODULE/reading.rt
+
+    mutant: ..
+
 A mutant has a name, a sentence that says what is wrong, and lines 'KEY: TEXT':
 
 - function: a function of which a clause must be open with it, or several;
 - old, new: pairs of a text that stands once in the file, and of what takes its place;
-- file: the file of the pairs that follow, if it isn't that source file;
+- file: the file of the pairs that follow, if it isn't that source;
 - field: RECORD.FIELD, the field of a definition that alone refuses it, or by its number the part;
 - error: what the language says of it, which refuses it before any clause does;
 - add: a file more, code or a proof, and line: each line of it. So a mutant brings a function that it calls, which must be
@@ -113,17 +117,20 @@ def once(name, crate, path, old):
 
 
 def read_edits(file, crate):
-    """Reads the mutants of a source file, and changes no path of its own: what lies below mutants/ lies below src/."""
-    path = "src/" + file.relative_to(crate / "mutants").with_suffix(".rt").as_posix()
-    found = []
+    """Reads a file of mutants: those of the source of its name, and those of others that it names. It changes no path: what lies
+    below mutants/ lies below src/."""
+    path, found, is_open = "src/" + file.relative_to(crate / "mutants").with_suffix(".rt").as_posix(), [], False
     for line in file.read_text(encoding="utf-8").splitlines():
-        if line.startswith("mutant: "):
-            found.append(Edit(line.removeprefix("mutant: "), file=file))
-        elif found and line.strip():
-            found[-1].lines.append(line)
+        if line.startswith("source: "):
+            path, is_open = line.removeprefix("source: "), False
+        elif line.startswith("mutant: "):
+            found.append((Edit(line.removeprefix("mutant: "), file=file), path))
+            is_open = True
+        elif is_open and line.strip():
+            found[-1][0].lines.append(line)
         elif line.strip():
             raise BadEdit(f"{file.name}: a line stands before any mutant: {line}")
-    return [edit.read(crate, path) for edit in found]
+    return [edit.read(crate, path) for edit, path in found]
 
 
 def read_edit(file, crate):

@@ -230,7 +230,9 @@ fn third<K: Kind>(n: K) -> usize {
     "crates/app/proofs/Own.antt": "use Rattle.low.proofs.Cited.{cited}\n\npub own : 1 ≡ 1\nown = cited\n",
     "crates/app/proofs/one/first/Answers.antt": "returns : 1\n",
     "crates/app/proofs/two/+second/Invariants.antt": "loop : 2\n",
-    "crates/app/mutants/one.edits": """mutant: first_is_wrong
+    "crates/app/mutants/lib.edits": """source: src/one.rt
+
+mutant: first_is_wrong
 It adds one.
 function: app::one::first
 old: second(n)

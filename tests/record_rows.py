@@ -21,11 +21,11 @@ FIRST, SECOND = {"first_is_wrong"}, {"second_is_wrong"}
 BOTH = FIRST | SECOND
 # What changes: the file, an old text and a new one; and the mutants that are tried again.
 CHANGES = [
-    ("the mutant's code", "app/mutants/one.edits", "+ 1", "+ 2", FIRST),
+    ("the mutant's code", "app/mutants/lib.edits", "+ 1", "+ 2", FIRST),
     ("a line of a file that the mutant adds", "app/mutants/two.edits", "Three.", "The third.", SECOND),
-    ("what the mutant says", "app/mutants/one.edits", "It adds one.", "One is added.", set()),
+    ("what the mutant says", "app/mutants/lib.edits", "It adds one.", "One is added.", set()),
     ("a function more of a mutant", "app/mutants/two.edits", "two::second", "two::second\nfunction: app::two::third", SECOND),
-    ("the mutant's name", "app/mutants/one.edits", "first_is_wrong", "first_adds", {"first_adds"}),
+    ("the mutant's name", "app/mutants/lib.edits", "first_is_wrong", "first_adds", {"first_adds"}),
     ("the function's body", "app/src/one.rt", "    second(n)", "    let n = n;\n    second(n)", FIRST),
     ("the body of another in its file", "app/src/two.rt", "    4\n", "    5\n", SECOND),
     ("a comment in its file", "app/src/two.rt", "//! Two.", "//! The second.", SECOND),
@@ -184,6 +184,7 @@ BAD = [
     ("nothing in the place of the old text", "new: second(n) + 1\n", ""),
     ("no old text", "old: second(n)\n", ""),
     ("an old text that isn't there", "old: second(n)", "old: second(m)"),
+    ("an old text that stands in another source", "source: src/one.rt", "source: src/two.rt"),
     ("an old text that is there twice", "old: second(n)", "old: n"),
     ("the name of another", "mutant: first_is_wrong", "mutant: second_is_wrong"),
     ("a line before any mutant", "mutant: first_is_wrong", "second(n)\n\nmutant: first_is_wrong"),
@@ -273,13 +274,13 @@ def rows():
             cites = ("app/specs/App.antt", "pub app", f"{line}\n\npub app")
             found = again(root, sums_of(root, cites), cites, change)
             yield f"cited, {name}: {'all are' if is_tried else 'none is'} tried", found == (BOTH if is_tried else set())
-        crate = laid(root, ("app/mutants/one.edits", "function: app::one::first", "function: app::two::third"))
+        crate = laid(root, ("app/mutants/lib.edits", "function: app::one::first", "function: app::two::third"))
         elsewhere, file = record.Repository(root).sums("app", edits_of(crate)), crate / "src/two.rt"
         file.write_text(file.read_text(encoding="utf-8").replace("    4\n", "    5\n"), encoding="utf-8")
         found = record.Repository(root).sums("app", edits_of(crate))
         yield "the body of a function in a file that its mutant leaves", found["first_is_wrong"] != elsewhere["first_is_wrong"]
         for name, old, new in BAD:
-            yield f"an edit with {name} is refused", amiss(laid(root, ("app/mutants/one.edits", old, new))) != ""
+            yield f"an edit with {name} is refused", amiss(laid(root, ("app/mutants/lib.edits", old, new))) != ""
         crate = laid(root)
         for name, text, wanted in RECORDS:
             (crate / "mutants/record").write_text(text, encoding="utf-8")
