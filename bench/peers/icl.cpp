@@ -1,8 +1,8 @@
-// Boost.ICL's interval_set: a tree of ranges.
-#include "grown.hpp"
+// Boost.ICL's interval_set and interval_map: trees of ranges.
 #include "held.hpp"
 #include "peers.hpp"
 
+#include <boost/icl/interval_map.hpp>
 #include <boost/icl/interval_set.hpp>
 
 namespace {
@@ -147,6 +147,39 @@ struct Icl {
     static void boundaries_of(const Set& set, Boundaries* out) { given(set, out); }
 };
 
+struct IclMap {
+    using Map = icl::interval_map<std::int64_t, std::uint64_t>;
+
+    static Map made() { return {}; }
+
+    static void put_in(Map& map, const Entries& entries) {
+        for (std::size_t i = 0; i < entries.values.size(); i++) {
+            map.set(std::make_pair(range(entries.ranges.starts[i], entries.ranges.ends[i]), entries.values[i]));
+        }
+    }
+
+    static std::uint64_t get(const Map& map, const Boundaries& keys) {
+        std::uint64_t sum = 0;
+        for (std::int64_t key : keys) {
+            auto found = map.find(key);
+            sum += found == map.end() ? 0 : found->second;
+        }
+        return sum;
+    }
+
+    static Map sum(const Map& map, const Map& that) { return map + that; }
+
+    static Entries entries_of(const Map& map) {
+        Entries entries;
+        for (const auto& [range, value] : map) {
+            entries.ranges.starts.push_back(range.lower());
+            entries.ranges.ends.push_back(range.upper());
+            entries.values.push_back(value);
+        }
+        return entries;
+    }
+};
+
 } // namespace
 
 GrowingKind growing_icl() {
@@ -155,4 +188,8 @@ GrowingKind growing_icl() {
 
 std::unique_ptr<Peer> icl_peer() {
     return std::make_unique<Held<Icl>>();
+}
+
+MapKind map_icl() {
+    return map_kind<IclMap>("Boost.ICL");
 }

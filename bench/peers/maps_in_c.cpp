@@ -1,5 +1,4 @@
 // The maps of range_set.h, over dist/. No call of theirs combines two.
-#include "mapped.hpp"
 #include "peers.hpp"
 #include "range_set.h"
 

@@ -1,5 +1,4 @@
 // The maps of the plain Rust crate, and a tree of ranges in Rust, through the exports of plain_rust/.
-#include "mapped.hpp"
 #include "peers.hpp"
 
 extern "C" {

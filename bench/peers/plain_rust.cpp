@@ -1,6 +1,5 @@
 // The plain Rust crate, through the exports of plain_rust/.
 #include "exported.hpp"
-#include "grown.hpp"
 #include "peers.hpp"
 
 extern "C" {

@@ -1,5 +1,4 @@
 // CRoaring: a set of uint32 in containers of bits, numbers or runs. It has no list of ranges.
-#include "grown.hpp"
 #include "held.hpp"
 #include "peers.hpp"
 

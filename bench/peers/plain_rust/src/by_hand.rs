@@ -1,7 +1,7 @@
 //! Calls beside what a user writes by hand: a list of pairs, a loop, std's tree. A row crosses as its place in [`ROWS`], and
 //! one of its two ways as a pointer, which `by_hand_new` answers and `by_hand_free` takes back.
 
-use crate::tree_map::TreeMap;
+use crate::tree::TreeMap;
 use range_sets::{ChunkedRangeSet, Connective, RangeMap, RangeSet2, RangeSetRef};
 use std::os::raw::c_char;
 use std::slice::from_raw_parts_mut as room;

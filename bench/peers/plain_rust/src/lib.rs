@@ -11,7 +11,6 @@ mod by_hand;
 mod growing;
 mod maps;
 mod tree;
-mod tree_map;
 
 use range_sets::{Connective, RangeSet2, RangeSetRange, RangeSetRef};
 use smallvec::SmallVec;

@@ -1,7 +1,7 @@
 //! Maps that stay while they are changed one range at a time and asked. A map crosses as a pointer, which `_new` and `_sum`
 //! answer and `_free` takes back.
 
-use crate::tree_map::TreeMap;
+use crate::tree::TreeMap;
 use range_sets::{RangeMap, RangeSetRange};
 use std::ops::Range;
 use std::slice::{from_raw_parts as list, from_raw_parts_mut as room};
