@@ -18,8 +18,9 @@ import sys
 import time
 from array import array
 from bisect import bisect_left, bisect_right
-from datetime import date, datetime, timedelta
-from ipaddress import IPv4Address
+from datetime import date, datetime, timedelta, timezone
+from fractions import Fraction
+from ipaddress import IPv4Address, IPv6Address
 
 from range_sets import MutableRangeSet, RangeMap, RangeSet, _core, union
 
@@ -303,6 +304,12 @@ def of_many(count):
     packed, copied = pickle.dumps(many), RangeSet.from_boundaries(flat)
     starts = itertools.cycle(random.Random(5).sample(range(0, 20 * count, 20), 1000))
 
+    try:
+        time64 = importlib.import_module("numpy").datetime64
+        of_numpy = [(time64("2026-05-04T09"), time64("2026-05-04T10"))]
+    except ImportError:
+        of_numpy = []
+
     def row(label, call, times=200):
         taken = min(seconds(call, times) for _ in range(ROUNDS))
         return [label, shown(taken)]
@@ -342,6 +349,11 @@ def of_many(count):
                 ("floats", (0.5, 2.5)),
                 ("addresses", (IPv4Address("10.0.0.0"), IPv4Address("10.0.1.0"))),
                 ("texts", ("a", "b")),
+                ("times with a zone", (datetime(2026, 5, 4, 9, tzinfo=timezone.utc), datetime(2026, 5, 4, 10, tzinfo=timezone.utc))),
+                ("lengths", (timedelta(1), timedelta(2))),
+                ("addresses of IPv6", (IPv6Address("::1"), IPv6Address("::5"))),
+                ("fractions", (Fraction(1, 2), Fraction(3, 4))),
+                *(("numpy's times", it) for it in of_numpy),
             )
         ),
         row("`m.add(7)`", lambda: changing.add(7), times=2000),

@@ -259,6 +259,48 @@ static PyObject *core_from_pairs(PyObject *module, PyObject *const *args, Py_ssi
     return bytes == NULL || bytes == Py_None ? bytes : arranged(bytes, PyBytes_GET_SIZE(bytes) / 8, args[1] == Py_False, arrange_from_ranges);
 }
 
+/* The starts and ends in turn of a list of pairs of anything, or None for anything else. */
+static PyObject *core_ends_of_pairs(PyObject *module, PyObject *source)
+{
+    /* Making the list may run Python's code, and by it a change. */
+    PyObject *pairs = PyList_CheckExact(source) ? PyList_AsTuple(source) : PyTuple_New(0), *ends = NULL;
+    Py_ssize_t count = pairs == NULL ? 0 : PyTuple_GET_SIZE(pairs), i = 0;
+    while (i < count && PyTuple_CheckExact(PyTuple_GET_ITEM(pairs, i)) && PyTuple_GET_SIZE(PyTuple_GET_ITEM(pairs, i)) == 2) i++;
+    if (pairs != NULL) ends = count > 0 && i == count ? PyList_New(2 * count) : Py_NewRef(Py_None);
+    for (i = 0; ends != NULL && ends != Py_None && i < 2 * count; i++)
+        PyList_SET_ITEM(ends, i, Py_NewRef(PyTuple_GET_ITEM(PyTuple_GET_ITEM(pairs, i / 2), i % 2)));
+    Py_XDECREF(pairs);
+    return ends;
+}
+
+/* Reads the numbers of a list, or returns false if one isn't from the least to the most. */
+static bool read_codes(PyObject *codes, uint64_t least, uint64_t most, bool is_signed, uint64_t *out)
+{
+    bool fits = true;
+    for (Py_ssize_t i = 0; fits && i < PyList_GET_SIZE(codes); i++)
+        fits = PyLong_CheckExact(PyList_GET_ITEM(codes, i)) && read_number(PyList_GET_ITEM(codes, i), is_signed, &out[i])
+               && is_reversed((Range){out[i], least, true}, is_signed) && is_reversed((Range){most, out[i], true}, is_signed);
+    return fits;
+}
+
+/* The union of ranges by the numbers of their starts and ends in turn, or None if one isn't from the least to the most. */
+static PyObject *core_from_codes(PyObject *module, PyObject *const *args, Py_ssize_t n)
+{
+    uint64_t least, most;
+    if (!has_arguments(n, 4)) return NULL;
+    bool is_signed = args[3] == Py_False;
+    if (!PyList_CheckExact(args[0])) return PyErr_Format(PyExc_TypeError, "expected a list of numbers");
+    if (!read_number(args[1], is_signed, &least) || !read_number(args[2], is_signed, &most)) return NULL;
+    size_t len = PyList_GET_SIZE(args[0]);
+    PyObject *bytes = PyBytes_FromStringAndSize(NULL, 8 * len);
+    if (bytes == NULL) return NULL;
+    if (read_codes(args[0], least, most, is_signed, (uint64_t *)PyBytes_AS_STRING(bytes)))
+        return arranged(bytes, len, is_signed, arrange_from_ranges);
+    PyErr_Clear();
+    Py_DECREF(bytes);
+    Py_RETURN_NONE;
+}
+
 /* ---- Questions ---- */
 
 typedef bool Question(const Arguments *given);
@@ -473,8 +515,8 @@ static PyMethodDef methods[] = {
     METHOD(equal), METHOD(range_at), METHOD(split), METHOD(rank), METHOD(first_fit),
     METHOD(first_fit_aligned), METHOD(first_run), METHOD(select), METHOD(covered), METHOD(span), METHOD(parse),
     METHOD_OF_ONE(print), METHOD_OF_ONE(pack), METHOD_OF_ONE(unpack), METHOD(over), METHOD(from_values), METHOD(places), METHOD(ranks),
-    METHOD(contains_each), METHOD(range_list), METHOD(from_pairs), METHOD(numbers_of_pairs), METHOD(depths), METHOD(ends_and_values), METHOD(moved),
-    METHOD(at_least), METHOD(mirror), METHOD_OF_ONE(lengths_of_floats), METHOD(number_of_time), METHOD(numbers_of_times),
+    METHOD(contains_each), METHOD(range_list), METHOD(from_pairs), METHOD_OF_ONE(ends_of_pairs), METHOD(from_codes), METHOD(numbers_of_pairs), METHOD(depths), METHOD(ends_and_values), METHOD(moved),
+    METHOD(at_least), METHOD(mirror), METHOD_OF_ONE(numbers_of_floats), METHOD_OF_ONE(lengths_of_floats), METHOD(number_of_time), METHOD(numbers_of_times),
     {NULL, NULL, 0, NULL},
 };
 

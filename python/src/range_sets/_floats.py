@@ -9,7 +9,7 @@ from struct import Struct
 
 from . import _core
 from ._core import Boundaries
-from ._kind import LEAST, NAN, UNCOUNTED, Kind
+from ._kind import NAN, UNCOUNTED, Kind
 from ._typing import TYPE_CHECKING
 
 if TYPE_CHECKING:
@@ -17,8 +17,6 @@ if TYPE_CHECKING:
 
 
 _FLOAT, _NUMBER = Struct("d"), Struct("q")
-# As many are faster at once than one by one.
-_MANY = 8
 
 
 def mirrored(numbers: Any) -> memoryview:
@@ -31,26 +29,21 @@ def mirrored(numbers: Any) -> memoryview:
 class Float(Kind):
     """Floats by their bits; the number of one below zero is minus the bits of its absolute value, so numbers sort as floats do."""
 
+    uncounted = UNCOUNTED
+
     def __init__(self) -> None:
-        self.infinity = _NUMBER.unpack(_FLOAT.pack(inf))[0]
+        self.infinity = self.codes([inf])[0]
         super().__init__("float", "a float", -self.infinity, self.infinity, "floats")
-        self.uncounted = UNCOUNTED
 
     def code(self, value: Any) -> int:
         if not isinstance(value, float):
             value = _exact(value, self)
         if value != value:
             raise ValueError(NAN)
-        bits: int = _NUMBER.unpack(_FLOAT.pack(value))[0]
-        return bits if bits >= 0 else LEAST - bits
+        return self.codes([value])[0]
 
     def codes(self, values: list[Any]) -> list[int]:
-        if len(values) < _MANY or {*map(type, values)} != {float}:
-            return super().codes(values)
-        numbers = mirrored(memoryview(array("d", values)).cast("B").cast("q")).tolist()
-        if max(numbers) > self.most or min(numbers) < self.least:
-            raise ValueError(NAN)
-        return numbers
+        return _core.numbers_of_floats(values) or super().codes(values)
 
     def value(self, code: int) -> float:
         found: float = _FLOAT.unpack(_NUMBER.pack(abs(code)))[0]

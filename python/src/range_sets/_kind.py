@@ -31,9 +31,22 @@ class Kind:
     """
 
     name: str
-    unsigned = False
+    element: str
+    plural: str
+    least: int
+    most: int
+    unsigned = is_whole = False
+    # The boundaries of the empty set.
+    nothing = _core.range_list(0, 0, False)
     # Whether the extension reads its elements itself.
     is_plain = False
+    # Whether its numbers are the ranks of a set's own boundaries, as of values that sort, or a set that changes is asked in chunks.
+    is_ordered, is_in_chunks = False, True
+    # What an error says if its elements aren't counted one by one.
+    uncounted = ""
+    # Whether a start at the least element says that there is none, as it does unless that is zero, and whether a range without an end
+    # has it above the greatest element.
+    is_open_below = ends_at_most = False
     # What an error adds to say between which elements one has to lie.
     span = ""
     # numpy's type of arrays that have these numbers as they lie.
@@ -41,16 +54,7 @@ class Kind:
 
     def __init__(self, name: str, element: str, least: int, most: int, plural: str) -> None:
         self.name, self.element, self.least, self.most, self.plural = name, element, least, most, plural
-        # The boundaries of the empty set.
-        self.nothing = _core.range_list(0, 0, self.unsigned)
-        self.is_whole = isinstance(self, Whole)
-        # Whether its numbers are the ranks of a set's own boundaries, as of values that sort, or a set that changes is asked in chunks.
-        self.is_ordered, self.is_in_chunks = False, True
-        # What an error says if its elements aren't counted one by one.
-        self.uncounted = ""
-        # Whether a start at the least element says that there is none, as it does unless that is zero, and whether a range without an end
-        # has it above the greatest element.
-        self.is_open_below, self.ends_at_most = least != 0, False
+        self.is_open_below = least != 0
 
     def code(self, value: Any) -> int:
         """The number of an element, which may lie outside of the kind's; a TypeError if it is no element of the kind."""
@@ -175,8 +179,10 @@ class Kind:
 class Whole(Kind):
     """Whole numbers, each by itself."""
 
+    is_whole = True
+
     def __init__(self, name: str, unsigned: bool) -> None:
-        self.unsigned = unsigned
+        self.unsigned, self.nothing = unsigned, _core.range_list(0, 0, unsigned)
         super().__init__(name, expected_number(unsigned), least(unsigned), most(unsigned), "numbers")
 
     def code(self, value: Any) -> int:

@@ -22,9 +22,10 @@ if TYPE_CHECKING:
 class Addresses(Kind):
     """IPv4 addresses, by their numbers."""
 
+    ends_at_most = True
+
     def __init__(self) -> None:
         super().__init__("IPv4Address", "an IPv4Address", 0, 2**32 - 1, "addresses")
-        self.ends_at_most = True
 
     def code(self, value: Any) -> int:
         if not isinstance(value, IPv4Address):
@@ -43,8 +44,10 @@ ADDRESS, ADDRESSES = Addresses(), (Addresses, LongAddresses)
 # What an error says of a float that is no whole number.
 OF_FLOATS = "kind='float' makes a set of floats"
 _KINDS = (SIGNED, UNSIGNED, FLOAT, DATE, DELTA, ADDRESS, LONG_ADDRESS, NAIVE, AWARE, ORDERED)
-_NAMED: dict[str | type, Kind] = {it.name: it for it in _KINDS}
-_NAMED |= {int: SIGNED, float: FLOAT, date: DATE, datetime: NAIVE, timedelta: DELTA, IPv4Address: ADDRESS, IPv6Address: LONG_ADDRESS}
+# The kind of each type whose elements have no other.
+_OF_TYPES: dict[type, Kind] = {int: SIGNED, float: FLOAT, date: DATE, timedelta: DELTA, IPv4Address: ADDRESS, IPv6Address: LONG_ADDRESS}
+_NAMED: dict[str | type, Kind] = {it.name: it for it in _KINDS} | _OF_TYPES | {datetime: NAIVE}
+_OF_TYPES |= {str: ORDERED, bytes: ORDERED}
 # What is a range of addresses.
 NETWORKS: tuple[type[IPv4Network], type[IPv6Network]] = (IPv4Network, IPv6Network)
 
@@ -94,18 +97,19 @@ def whole(unsigned: bool) -> Whole:
 
 def kind_of(value: Any) -> Kind | None:
     """The kind of an element, or None if it is none."""
-    if type(value) is int:
-        return SIGNED
+    found = _OF_TYPES.get(type(value))
+    if found is not None:
+        return found
     if isinstance(value, datetime):
         if value.tzinfo is not None and value.utcoffset() is not None:
             return AWARE
         # pandas' own may have nanoseconds.
         return of_dtype(value.to_datetime64().dtype) if hasattr(value, "to_datetime64") else NAIVE
-    for type_of, kind in ((float, FLOAT), (date, DATE), (timedelta, DELTA), (IPv4Address, ADDRESS), (IPv6Address, LONG_ADDRESS)):
-        if isinstance(value, type_of):
-            return kind
     if type(value).__name__ == "datetime64" and hasattr(value, "dtype"):
         return of_dtype(value.dtype)
+    for type_of, kind in _OF_TYPES.items():
+        if isinstance(value, type_of):
+            return kind
     if is_numpy_float(value):
         return FLOAT
     try:
@@ -117,7 +121,8 @@ def kind_of(value: Any) -> Kind | None:
 
 def is_one_value(value: Any) -> bool:
     """Whether it is no list, table, array or range."""
-    return isinstance(value, (str, bytes)) or not any(hasattr(value, it) for it in ("__iter__", "dtype", "closed", "lower_inc"))
+    is_many = hasattr(value, "__iter__") or hasattr(value, "dtype") or hasattr(value, "closed") or hasattr(value, "lower_inc")
+    return isinstance(value, (str, bytes)) or not is_many
 
 
 def sorts(value: Any) -> bool:

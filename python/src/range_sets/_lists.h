@@ -114,6 +114,7 @@ PyObject *core_at_least(PyObject *module, PyObject *const *args, Py_ssize_t n);
 /* Numbers of floats. */
 PyObject *core_depths(PyObject *module, PyObject *const *args, Py_ssize_t n);
 PyObject *core_mirror(PyObject *module, PyObject *const *args, Py_ssize_t n);
+PyObject *core_numbers_of_floats(PyObject *module, PyObject *object);
 PyObject *core_lengths_of_floats(PyObject *module, PyObject *object);
 
 /* Numbers of times. */

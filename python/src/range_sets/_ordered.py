@@ -24,23 +24,20 @@ class Ordered(Kind):
     as which it is a member or not.
     """
 
+    name, element, plural = "ordered", "a value that sorts", "values that sort"
+    least = 0
+    is_ordered, is_in_chunks = True, False
+    uncounted = "values that sort aren't counted one by one"
     # The least value of each type that has one, and what an error says of others.
     leasts: tuple[tuple[type, Any], ...] = ((str, ""), (bytes, b""), (tuple, ()))
 
-    def __init__(
-        self, keys: Sequence[Any] = (), name: str = "ordered", element: str = "a value that sorts", plural: str = "values that sort"
-    ) -> None:
-        super().__init__(name, element, 0, len(keys) - 1, plural)
-        self.is_ordered, self.is_in_chunks = True, False
-        # What stands for the boundaries. It is never changed.
-        self.keys = keys
-        self.uncounted = f"{plural} aren't counted one by one"
+    def __init__(self, keys: Sequence[Any] = ()) -> None:
+        # What stands for the boundaries, which are sorted. It is never changed.
+        self.keys, self.most = keys, len(keys) - 1
 
     def over(self, keys: Sequence[Any]) -> Ordered:
         """The kind of sorted boundaries."""
-        made = object.__new__(type(self))
-        made.__dict__.update(self.__dict__, keys=keys, most=len(keys) - 1)
-        return made
+        return type(self)(keys)
 
     def key(self, value: Any) -> Any:
         """What stands for a value."""
@@ -50,6 +47,10 @@ class Ordered(Kind):
 
     def code(self, value: Any) -> int:
         return bisect_right(self.keys, self.key(value)) - 1
+
+    def codes(self, values: list[Any]) -> list[int]:
+        keys = self.keys
+        return [bisect_right(keys, it) - 1 for it in map(self.key, values)]
 
     def value(self, code: int) -> Any:
         return self.keys[code]
@@ -86,7 +87,7 @@ class Ordered(Kind):
 
     def _sorted(self, keys: Iterable[Any]) -> Ordered:
         in_order = sorted(keys)
-        return self.over([*in_order[:1], *(after for before, after in pairwise(in_order) if before < after)])
+        return self.over(in_order[:1] + [after for before, after in pairwise(in_order) if before < after])
 
     def kept(self, boundaries: Boundaries) -> Sequence[Any]:
         """What stands for the boundaries of a set."""
@@ -143,9 +144,9 @@ class Ordered(Kind):
 class LongAddresses(Ordered):
     """IPv6 addresses, in the order of their numbers of 128 bits."""
 
-    def __init__(self, keys: Sequence[int] = ()) -> None:
-        super().__init__(keys, "IPv6Address", "an IPv6Address", "IPv6 addresses")
-        self.ends_at_most = True
+    name, element, plural = "IPv6Address", "an IPv6Address", "IPv6 addresses"
+    uncounted = "IPv6 addresses aren't counted one by one"
+    ends_at_most = True
 
     def key(self, value: Any) -> int:
         if not isinstance(value, IPv6Address):

@@ -412,20 +412,17 @@ def _codes_of(values: Iterable[Any], kind: Kind, is_given: bool) -> list[int]:
 
 def _gather_pairs(items: list[Any], kind: Kind | None) -> Now | None:
     """The union of pairs of elements of one kind; or None for anything else, which is read one by one."""
-    if {*map(type, items)} != {tuple} or {*map(len, items)} != {2}:
-        return None
-    ends = [*chain.from_iterable(items)]
-    kind = kind or kind_of(ends[0])
-    if kind is None:
+    ends = _core.ends_of_pairs(items)
+    kind = kind or (kind_of(ends[0]) if ends else None)
+    if kind is None or ends is None:
         return None
     try:
         kind = kind.of(ends)
         codes = kind.codes(ends)
     except (TypeError, ValueError):
         return None
-    if min(codes) < kind.least or max(codes) > kind.most:
-        return None
-    return _core.from_ranges(array(typecode_of(kind.unsigned), codes)), kind
+    made = _core.from_codes(codes, kind.least, kind.most, kind.unsigned)
+    return None if made is None else (made, kind)
 
 
 def _of_texts(items: Iterable[Any], kind: Kind) -> Iterator[Any]:

@@ -2,7 +2,9 @@
 
 from __future__ import annotations
 
+from array import array
 from datetime import date, datetime, timedelta, timezone
+from operator import attrgetter
 
 from . import _core
 from ._kind import LEAST, MOST, NAT, Kind, named, refuse_nat
@@ -13,6 +15,7 @@ if TYPE_CHECKING:
 
 _DAY, _MICROSECOND = timedelta(days=1), timedelta(microseconds=1)
 _FIRST_DAY = date(1970, 1, 1).toordinal()
+_DTYPE = attrgetter("dtype")
 
 
 class Timed(Kind):
@@ -125,11 +128,9 @@ class Numpys(Kind):
         return code
 
     def codes(self, values: list[Any]) -> list[int]:
-        import numpy
-
-        if {*map(type, values)} != {numpy.datetime64} or {it.dtype for it in values} != {self.dtype}:
+        if {*map(type, values)} != {self.dtype.type} or any(map(self.dtype.__ne__, map(_DTYPE, values))):
             return super().codes(values)
-        codes: list[int] = numpy.array(values).view("i8").tolist()
+        codes = array("q", b"".join(values)).tolist()
         if LEAST in codes:
             raise ValueError(NAT)
         return codes
@@ -213,9 +214,10 @@ _OF_DTYPES: dict[Any, Kind] = {}
 
 def of_dtype(dtype: Any) -> Kind:
     """The kind of numpy's times of a unit: one for each, also if two threads ask for it at once."""
-    if dtype not in _OF_DTYPES:
+    found = _OF_DTYPES.get(dtype)
+    if found is None:
         if dtype.kind != "M" or "[" not in dtype.name:
             raise TypeError(f"expected numpy's datetime64 of a unit, not {dtype.name}")
         native = dtype.newbyteorder("=")
-        _OF_DTYPES[dtype] = _OF_DTYPES.get(native) or _OF_DTYPES.setdefault(native, Numpys(native))
-    return _OF_DTYPES[dtype]
+        found = _OF_DTYPES[dtype] = _OF_DTYPES.get(native) or _OF_DTYPES.setdefault(native, Numpys(native))
+    return found
