@@ -33,6 +33,14 @@ class Conversions(unittest.TestCase):
                         self.assertEqual((list(found), found.kind, type(found)), (expected, self.name_of(kind), type(made)))
                         self.assertEqual(found.astype(made.kind), made)
                     self.assertEqual((list(made), made.kind), before)
+            of_set = RangeSet(source, **given)
+            before = RangeMap([(it, "a") for it in of_set], kind=of_set.kind)
+            if isinstance(expected, tuple):
+                self.assertRaisesRegex(*expected, before.astype, kind)
+            else:
+                after = before.astype(kind)
+                self.assertEqual((list(after.items()), after.kind), ([(it, "a") for it in expected], self.name_of(kind)))
+                self.assertEqual(after.astype(of_set.kind), before)
 
     @staticmethod
     def name_of(kind):
@@ -57,15 +65,28 @@ class Conversions(unittest.TestCase):
                 ([(-0.0, 2.0), (1e300, None)], {}, "int", beyond),
                 ([(None, 2.0)], {}, "int", (ValueError, "-inf is no whole number")),
                 ([(1.0, inf)], {}, "unsigned", (ValueError, "inf is no whole number")),
-                ([(1.0, 2.0)], {}, "date", (TypeError, "a set of the kind float is none of the kind date")),
-                ([(1, 2)], {}, "IPv4Address", (TypeError, "a set of the kind int is none of the kind IPv4Address")),
+                ([(1.0, 2.0)], {}, "date", (TypeError, "elements of the kind float are none of the kind date")),
+                ([(1, 2)], {}, "IPv4Address", (TypeError, "elements of the kind int are none of the kind IPv4Address")),
                 ([(1, 2)], {}, "ordered", (TypeError, "none of the kind ordered")),
-                ([IPv4Network("10.0.0.0/8")], {}, "int", (TypeError, "a set of the kind IPv4Address is none of the kind int")),
-                ([("a", "b")], {}, "int", (TypeError, "a set of the kind ordered is none of the kind int")),
+                ([IPv4Network("10.0.0.0/8")], {}, "int", (TypeError, "elements of the kind IPv4Address are none of the kind int")),
+                ([("a", "b")], {}, "int", (TypeError, "elements of the kind ordered are none of the kind int")),
                 ([(1, 2)], {}, None, (TypeError, "expected a kind, not None")),
                 ([(1, 2)], {}, "number", (TypeError, "a kind is one of")),
             )
         )
+
+    def test_maps(self):
+        before = RangeMap([((FIRST, SECOND), "a"), ((SECOND, date(2026, 5, 9)), "b"), ((date(2026, 6, 1), None), "b")])
+        after = before.astype("datetime")
+        self.assertEqual((after[NOON], after.pop(midnight(SECOND))), ("a", "b"))
+        after[NOON:] = "c"
+        self.assertEqual([*after.items()], [((midnight(FIRST), NOON), "a"), ((NOON, None), "c")])
+        self.assertRaisesRegex(ValueError, "whole D", after.astype, date)
+        self.assertEqual(
+            (len(before), RangeMap().astype("date").kind, RangeMap(kind="date").astype("datetime").kind), (3, "date", "datetime")
+        )
+        named = type("Named", (RangeMap,), {})([((0, 5), 1)])
+        self.assertIs(type(named.astype(float)), type(named))
 
     def test_dates_and_times(self):
         zoned = [(NOON.replace(tzinfo=timezone.utc), None)]
@@ -81,9 +102,9 @@ class Conversions(unittest.TestCase):
                 ([(None, SECOND)], {}, datetime, [(datetime.min, midnight(SECOND))]),
                 ([(midnight(FIRST), NOON)], {}, "date", (ValueError, "expected a time of whole D in 64 bits")),
                 ([(NOON, None)], {}, "date", (ValueError, "expected a time of whole D in 64 bits")),
-                ([(NOON, None)], {}, "datetime[UTC]", (TypeError, "a set of the kind datetime is none of the kind datetime.UTC.")),
-                (zoned, {}, "datetime", (TypeError, "a set of the kind datetime.UTC. is none of the kind datetime")),
-                ([(timedelta(1), None)], {}, "date", (TypeError, "a set of the kind timedelta is none of the kind date")),
+                ([(NOON, None)], {}, "datetime[UTC]", (TypeError, "elements of the kind datetime are none of the kind datetime.UTC.")),
+                (zoned, {}, "datetime", (TypeError, "elements of the kind datetime.UTC. are none of the kind datetime")),
+                ([(timedelta(1), None)], {}, "date", (TypeError, "elements of the kind timedelta are none of the kind date")),
                 (zoned, {}, "datetime[UTC]", zoned),
             )
         )

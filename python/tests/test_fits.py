@@ -1,9 +1,10 @@
-"""Where a length of elements fits at a multiple, and where all of them are members."""
+"""Which elements and ranges are next, where a length of elements fits at a multiple, and where all of them are members."""
 
 import random
 import unittest
 from datetime import date, datetime, timedelta
 from ipaddress import IPv4Address, IPv4Network, IPv6Address, IPv6Network
+from math import nextafter
 
 from range_sets import MutableRangeSet, RangeSet, _core
 
@@ -141,6 +142,60 @@ class Fits(unittest.TestCase):
             self.check(name, ((source, given, expected),))
         self.assertEqual(RangeSet().first_fit_aligned(day, 7 * day, monday), date(1970, 1, 8))
         self.assertIsNone(RangeSet().first_run(day, monday))
+
+    def test_next_ones(self):
+        some, day, top = [(0, 10), (20, None)], date(2026, 5, 4), IPv4Address("255.255.255.255")
+        texts, of_ten, long = [("b", "d"), ("f", None)], [IPv4Network("10.0.0.0/8")], [IPv6Network("::/120")]
+        for name, source, value, expected in (
+            ("range_from", some, 5, (0, 10)),
+            ("range_from", some, LEAST, (0, 10)),
+            ("range_from", some, 10, (20, None)),
+            ("range_from", [(0, 10)], 10, None),
+            ("next_member", some, 10, 20),
+            ("next_member", some, MOST, MOST),
+            ("next_member", [(0, 10)], 10, None),
+            ("next_gap", some, 0, 10),
+            ("next_gap", some, 15, 15),
+            ("next_gap", some, 20, None),
+            ("prev_member", some, 15, 9),
+            ("prev_member", some, -1, None),
+            ("prev_gap", some, 25, 19),
+            ("prev_gap", [(None, 5)], 4, None),
+            ("next_member", some, 2**63, OverflowError),
+            ("prev_gap", some, LEAST - 1, OverflowError),
+            ("range_from", some, "a", TypeError),
+            ("next_gap", some, (0, 5), TypeError),
+            ("next_member", [], 5, None),
+            ("prev_gap", [], day, day),
+            ("prev_gap", [(None, day)], date(2026, 5, 1), None),
+            ("prev_member", [(None, day)], date.max, date(2026, 5, 3)),
+            ("next_gap", [(day, None)], day, None),
+            ("next_gap", of_ten, IPv4Address("10.1.1.1"), IPv4Address("11.0.0.0")),
+            ("prev_member", of_ten, top, IPv4Address("10.255.255.255")),
+            ("next_gap", [(top, None)], top, None),
+            ("prev_gap", [(None, top)], IPv4Address(0), None),
+            ("prev_gap", [(0.5, 1.5)], 1.0, nextafter(0.5, 0)),
+            ("next_member", [(0.5, 1.5)], 0, 0.5),
+            ("range_from", texts, "a", ("b", "d")),
+            ("range_from", texts, "dog", ("f", None)),
+            ("next_member", texts, "a", "b"),
+            ("next_member", texts, "cat", "cat"),
+            ("next_member", texts[:1], "d", None),
+            ("next_gap", texts, "a", "a"),
+            ("next_gap", texts, "cat", "d"),
+            ("next_gap", texts, "dog", "dog"),
+            ("next_gap", texts, "fig", None),
+            ("next_gap", [], "fig", "fig"),
+            ("prev_member", texts, "cat", TypeError),
+            ("prev_gap", texts, "a", TypeError),
+            ("next_gap", long, IPv6Address("::5"), IPv6Address("::100")),
+            ("next_member", long, IPv6Address("::5"), IPv6Address("::5")),
+            ("next_member", long, IPv6Address("::100"), None),
+            ("prev_gap", long, IPv6Address("::5"), TypeError),
+        ):
+            self.check(name, ((source, (value,), expected),))
+        self.check("next_gap", (([(2**64 - 5, None)], (2**64 - 1,), None), ([(0, 5)], (0,), 5)), unsigned=True)
+        self.check("prev_gap", (([(0, 5)], (4,), None), ([(2**63, None)], (2**64 - 1,), 2**63 - 1)), unsigned=True)
 
     def test_made_up_sets(self):
         some, answers = random.Random(753), set()

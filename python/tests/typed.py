@@ -58,6 +58,8 @@ assert_type(days.select(5), date | None)
 assert_type(days.first_fit(timedelta(2), date(2026, 5, 1)), date | None)
 assert_type(days.first_fit_aligned(timedelta(2), timedelta(7)), date | None)
 assert_type(times.first_run(timedelta(hours=2)), datetime | None)
+assert_type(days.next_gap(date(2026, 5, 1)), date | None)
+assert_type(days.range_from(date(2026, 5, 1)), tuple[date, date | None] | None)
 assert_type(made.covered(), int | None)
 assert_type(addresses.covered(), int)
 assert_type(times.covered(), timedelta | None)
@@ -135,6 +137,7 @@ leave.remove(None, date(2026, 5, 2))
 assert_type(leave.part(date(2026, 5, 1), None), RangeMap[date, str])
 assert_type([(first, who) for (first, end), who in leave.items()], list[tuple[date, str]])
 leave.modify(days, str.upper)
+assert_type(leave.astype(datetime), RangeMap[datetime, str])
 assert_type(RangeMap.from_arrays([0, 7], [5, None], ["Ada", "Bob"]), RangeMap[int, str])
 assert_type(RangeMap.depth([("a", "b")]), RangeMap[str, int])
 assert_type(RangeMap.depth([days, days]), RangeMap[date, int])
@@ -214,3 +217,4 @@ leave.put(0, 5, "Ada")  # type: ignore[arg-type]
 leave.part(0, 5)  # type: ignore[arg-type]
 bookings["a"]  # type: ignore[call-overload]
 bookings.modify(range(3), len)  # type: ignore[arg-type]
+days.next_gap(5)  # type: ignore[arg-type]

@@ -109,6 +109,16 @@ class AgainstSets(unittest.TestCase):
         below, above = made.split(start)
         self.assertEqual((members(below), members(above)), ({n for n in x if n < start}, {n for n in x if n >= start}))
 
+    @given(small_lists, some.sampled_from(SMALL))
+    def test_next_ones(self, pairs, n):
+        x, out = points_of(pairs), {SMALL[0] - 1, *SMALL} - points_of(pairs)
+        for made in (RangeSet(pairs), MutableRangeSet(pairs)):
+            self.assertEqual(made.range_from(n), next((it for it in made if it[1] is None or it[1] > n), None))
+            self.assertEqual(made.next_member(n), min((it for it in x if it >= n), default=None))
+            self.assertEqual(made.next_gap(n), min((it for it in out if it >= n), default=None))
+            self.assertEqual(made.prev_member(n), max((it for it in x if it <= n), default=None))
+            self.assertEqual(made.prev_gap(n), max((it for it in out if it <= n), default=None))
+
     @given(small_lists, some.integers(0, 12), some.integers(SMALL[0], SMALL[-1]), some.integers(SMALL[0], SMALL[-1]))
     def test_where_numbers_fit(self, pairs, length, start, end):
         x = points_of(pairs)
@@ -181,6 +191,19 @@ class AgainstSets(unittest.TestCase):
         with self.assertRaises(OverflowError):
             made.update([*others, ((0, 2**63), "a")])
         self.assertEqual(repr([*made.items()]), repr([*one_by_one.items()]))
+        self.assertEqual(repr([*made.astype("float").astype("int").items()]), repr([*made.items()]))
+        self.assertEqual([key for key, _ in made.astype("float").items()], [*made.keys()])
+        # Those of another map where this one has none; of the keys in a set alone, and of all but these.
+        put, part = RangeMap(others), RangeSet([it for it, _ in others])
+        where_free, rest = made.combine(put, lambda value, _: value), made.copy()
+        del rest[part]
+        of_put = {n: [value] for pair, value in others for n in points_of([pair])}
+        for it, expected in (
+            (where_free, of_put | cells),
+            (made[part], {n: cells[n] for n in {*cells} & {*of_put}}),
+            (rest, {n: cells[n] for n in {*cells} - {*of_put}}),
+        ):
+            self.assertEqual([[(type(value), value) for value in expected.get(n, ())] for n in POINTS], self.values_of(it))
         made.update(others)
         cells |= {n: [value] for pair, value in others for n in points_of([pair])}
         self.assertEqual([[(type(value), value) for value in cells.get(n, ())] for n in POINTS], self.values_of(made))
@@ -263,7 +286,7 @@ class EachKind(unittest.TestCase):
     @given(of_a_kind(1), some.data())
     def test_ranges(self, drawn, data):
         name, places = drawn
-        made, elements = RangeSet(pairs_of(name, places), kind=name), ELEMENTS[name]
+        made, elements, kind = RangeSet(pairs_of(name, places), kind=name), ELEMENTS[name], given_kind(name)
         x = members_of_kind(name, made)
         start, end = (elements[data.draw(some.integers(0, len(elements) - 2))] for _ in range(2))
         inside = members_of_pairs(name, [(start, end)])
@@ -284,6 +307,17 @@ class EachKind(unittest.TestCase):
             list(made.overlapping(start, end)), [it for it in made if start < end and RangeSet([it]) & RangeSet([(start, end)])]
         )
         self.assertEqual(made.range_at(start), next((it for it in made if it[0] <= start and (it[1] is None or start < it[1])), None))
+        for it in (made, MutableRangeSet(made)):
+            self.assertEqual(it.range_from(start), next((it for it in made if it[1] is None or start < it[1]), None))
+            self.assertEqual(it.next_member(start), min((it for it in x if it >= start), default=None))
+            self.assertEqual(it.next_gap(start), min((it for it in elements if it >= start and it not in x), default=None))
+            # These may lie between the elements that are looked at.
+            for found, others in ((it.prev_member(start), made), (it.prev_gap(start), ~made)):
+                self.assertEqual(found is None, not others.split(start)[0] and start not in others)
+                if found not in (None, start):
+                    end = others.range_at(found)[1]
+                    nothing = RangeSet([(end, start)], kind=name)
+                    self.assertEqual((kind.code(end) - kind.code(found), others.gaps(end, start), start in others), (1, nothing, False))
 
     @given(of_a_kind(1))
     def test_other_forms(self, drawn):

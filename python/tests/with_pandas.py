@@ -68,7 +68,20 @@ class Frames(unittest.TestCase):
         made = MutableRangeSet([seven])
         made.add(three)
         self.assertTrue(made.covers(three) and not made.covers(pandas.Interval(3, 6, closed="left")))
-        for call in (lambda: RangeSet([pandas.Interval(3, 5)]), lambda: made.add(pandas.Interval(3, 5))):
+        names = RangeMap([((0, 10), "a")])
+        names[three] = "b"
+        del names[seven]
+        self.assertEqual([*names.items()], [((0, 3), "a"), ((3, 5), "b"), ((5, 7), "a"), ((9, 10), "a")])
+        self.assertEqual((names[pandas.Interval(4, 6, closed="left")], len(RangeMap()[three])), (names[4:6], 0))
+        names.modify(three, str.upper)
+        self.assertEqual((names[4], names.overlapping(three)), ("B", [((3, 5), "B")]))
+        self.assertRaises(TypeError, names.__getitem__, pandas.IntervalIndex([three, seven]))
+        for call in (
+            lambda: RangeSet([pandas.Interval(3, 5)]),
+            lambda: made.add(pandas.Interval(3, 5)),
+            lambda: names[pandas.Interval(3, 5)],
+            lambda: names.__delitem__(pandas.Interval(3, 5)),
+        ):
             with self.assertRaisesRegex(ValueError, "closed='left' and not 'right'"):
                 call()
         self.assertEqual(list(RangeSet(pandas.arrays.IntervalArray.from_arrays([0.5], [1.5], closed="left"))), [(0.5, 1.5)])

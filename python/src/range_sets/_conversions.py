@@ -25,15 +25,20 @@ def of_kind(now: Now, kind: Kind) -> Now:
         return now
     if found is NO_KIND:
         return kind.nothing, kind
+    return _core.from_boundaries(codes_of_kind(boundaries, found, kind)), kind
+
+
+def codes_of_kind(codes: Any, found: Kind, kind: Kind) -> array[int]:
+    """The numbers of the same elements in another kind, of sorted ones of a kind."""
     if _has_times(found) and _has_times(kind):
-        codes = _codes_of_times(now, kind)
+        made = _codes_of_times((codes, found), kind)
     elif _has_numbers(found) and _has_numbers(kind):
-        codes = [_code_of_number(it, kind) for it in found.values(boundaries)]
+        made = [_code_of_number(it, kind) for it in found.values(codes)]
     else:
-        raise TypeError(f"a set of the kind {found.name} is none of the kind {kind.name}")
-    for code in (*codes[:1], *codes[-1:]):
+        raise TypeError(f"elements of the kind {found.name} are none of the kind {kind.name}")
+    for code in (*made[:1], *made[-1:]):
         kind.checked(code)
-    return _core.from_boundaries(array(typecode_of(kind.unsigned), codes)), kind
+    return array(typecode_of(kind.unsigned), made)
 
 
 def of_times(now: Now, kind: Kind | None) -> Now:

@@ -360,6 +360,13 @@ static bool read_question(Arguments *given, PyObject *const *args, Py_ssize_t n,
 /* Each for a type of numbers, which `as_python` makes a number of Python's. */
 #define FOUND(type, name, ...) \
     static PyObject *find_##name##_##type(const Arguments *given) { __VA_ARGS__ }
+#define FOUND_RANGE(type, name) \
+    FOUND(type, name, range_set_##type##_range range; \
+          if (!ASK_OF(type, name, given->numbers[0], &range)) Py_RETURN_NONE; \
+          return found_range_##type(range.start, &range);)
+#define FOUND_NUMBER(type, number, as_python, name) \
+    FOUND(type, name, number found; \
+          return ASK_OF(type, name, given->numbers[0], &found) ? as_python(found) : Py_NewRef(Py_None);)
 #define FINDS(type, number, as_python) \
     static PyObject *found_range_##type(number start, const range_set_##type##_range *last) \
     { \
@@ -368,9 +375,12 @@ static bool read_question(Arguments *given, PyObject *const *args, Py_ssize_t n,
     FOUND(type, contains, return PyBool_FromLong(ASK_OF(type, contains, given->numbers[0]));) \
     FOUND(type, contains_range, return PyBool_FromLong(ASK_OF(type, contains_range, given->numbers[0], given->numbers[1]));) \
     FOUND(type, rank, return PyLong_FromUnsignedLongLong(ASK_OF(type, rank, given->numbers[0]));) \
-    FOUND(type, range_at, range_set_##type##_range range; \
-          if (!ASK_OF(type, range_at, given->numbers[0], &range)) Py_RETURN_NONE; \
-          return found_range_##type(range.start, &range);) \
+    FOUND_RANGE(type, range_at) \
+    FOUND_RANGE(type, range_from) \
+    FOUND_NUMBER(type, number, as_python, next_member) \
+    FOUND_NUMBER(type, number, as_python, next_gap) \
+    FOUND_NUMBER(type, number, as_python, prev_member) \
+    FOUND_NUMBER(type, number, as_python, prev_gap) \
     FOUND(type, span, range_set_##type##_range first, last; \
           if (!ASK_OF(type, first, &first) || !ASK_OF(type, last, &last)) Py_RETURN_NONE; \
           return found_range_##type(first.start, &last);) \
@@ -408,6 +418,11 @@ FINDS(u64, uint64_t, PyLong_FromUnsignedLongLong)
 FIND(contains, 1, 0, false)
 FIND(contains_range, 2, 0, false)
 FIND(range_at, 1, 0, false)
+FIND(range_from, 1, 0, false)
+FIND(next_member, 1, 0, false)
+FIND(next_gap, 1, 0, false)
+FIND(prev_member, 1, 0, false)
+FIND(prev_gap, 1, 0, false)
 FIND(span, 0, 0, false)
 FIND(split, 1, 0, false)
 FIND(rank, 1, 0, false)
@@ -512,7 +527,7 @@ static PyMethodDef methods[] = {
     METHOD(union), METHOD(intersection), METHOD(difference), METHOD(symmetric_difference), METHOD(negation),
     METHOD_OF_ONE(from_boundaries), METHOD_OF_ONE(from_unsorted), METHOD_OF_ONE(from_ranges), METHOD(is_signed), METHOD(is_sorted),
     METHOD(is_empty), METHOD(contains), METHOD(contains_range), METHOD(is_disjoint), METHOD(intersects), METHOD(is_subset),
-    METHOD(equal), METHOD(range_at), METHOD(split), METHOD(rank), METHOD(first_fit),
+    METHOD(equal), METHOD(range_at), METHOD(range_from), METHOD(next_member), METHOD(next_gap), METHOD(prev_member), METHOD(prev_gap), METHOD(split), METHOD(rank), METHOD(first_fit),
     METHOD(first_fit_aligned), METHOD(first_run), METHOD(select), METHOD(covered), METHOD(span), METHOD(parse),
     METHOD_OF_ONE(print), METHOD_OF_ONE(pack), METHOD_OF_ONE(unpack), METHOD(over), METHOD(from_values), METHOD(places), METHOD(ranks),
     METHOD(contains_each), METHOD(range_list), METHOD(from_pairs), METHOD_OF_ONE(ends_of_pairs), METHOD(from_codes), METHOD(numbers_of_pairs), METHOD(depths), METHOD(ends_and_values), METHOD(moved),

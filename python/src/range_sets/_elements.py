@@ -3,7 +3,7 @@
 from __future__ import annotations
 
 import re
-from datetime import date, datetime
+from datetime import date, datetime, timedelta
 from ipaddress import IPv4Address, IPv4Network, IPv6Address, IPv6Network
 
 from ._errors import ParseError
@@ -16,6 +16,14 @@ from ._typing import TYPE_CHECKING
 if TYPE_CHECKING:
     from typing import Any, Callable, Iterator
 
+
+def _length(text: str) -> timedelta:
+    """A length of time of a text, as Python and pandas write it."""
+    days, _, clock = text.rpartition(" ")
+    hours, minutes, seconds = (*clock.split(":"), "0")[:3]
+    return timedelta(int(days.partition(" ")[0] or 0), float(seconds), 0, 0, int(minutes), int(hours))
+
+
 # What elements look like, and how one is read.
 _DAY = r"\d{4}-\d\d-\d\d"
 _TIME = rf"{_DAY}[ T]\d\d:\d\d(:\d\d(\.\d{{1,6}})?)?"
@@ -24,6 +32,7 @@ FORMS: dict[str, tuple[str, Callable[[str], Any]]] = {
     "date": (_DAY, date.fromisoformat),
     "datetime": (_TIME, datetime.fromisoformat),
     "datetime[UTC]": (rf"{_TIME}(Z|[-+]\d\d(:\d\d){{0,2}})", datetime.fromisoformat),
+    "timedelta": (r"(-?\d+ days?,? \+?)?\d+:[0-5]\d(:[0-5]\d(\.\d{1,6})?)?", _length),
     "float": (r"-?(\d+(\.\d+)?(e[-+]\d+)?|inf)", float),
     "IPv4Address": (r"[\d.]+", IPv4Address),
     "IPv6Address": (r"[\da-fA-F:.]+", IPv6Address),
@@ -58,7 +67,8 @@ def ranges_in(text: Any, kind: Kind) -> Iterator[Any]:
     if kind.name not in FORMS and not isinstance(kind, Numpys):
         raise TypeError(f"{kind.plural} aren't read of a text")
     position = 0
-    for part in text.split(",") if text.strip() else []:
+    # Lengths of time have a comma after their days.
+    for part in re.split(r"(?<!day)(?<!days),", text) if text.strip() else []:
         yield range_of(part.strip(), position + len(part) - len(part.lstrip()), kind)
         position += len(part) + 1
 

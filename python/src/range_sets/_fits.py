@@ -1,9 +1,9 @@
-"""Where many elements in a row fit, or are members."""
+"""Which elements and ranges are next, and where many elements in a row fit, or are members."""
 
 from __future__ import annotations
 
 from . import _core
-from ._kind import NO_KIND
+from ._kind import NO_KIND, Kind
 from ._kinds import kind_of_first
 from ._ordered import first_in
 from ._questions import Questions
@@ -15,9 +15,84 @@ if TYPE_CHECKING:
 
 
 class Fits(Questions[E]):
-    """Searches for a length of elements, none of which is a member or all of which are."""
+    """Searches for the elements and the range next to one, and for a length of elements, none of which is a member or all of which are."""
 
     __slots__ = ()
+
+    def range_from(self, value: E) -> tuple[E, E | None] | None:
+        """The first range that has an element or lies above it, or None if there is none.
+
+        Cost: a search.
+
+        >>> s = RangeSet([(0, 10), (20, 30)])
+        >>> s.range_from(5), s.range_from(15), s.range_from(30)
+        ((0, 10), (20, 30), None)
+        """
+        asked, kind, code = self._next_to(value)
+        return kind.pair(_core.range_from(asked, code))
+
+    def next_member(self, value: E) -> E | None:
+        """The least member from an element on, or None if there is none.
+
+        Cost: a search.
+
+        >>> s = RangeSet([(0, 10), (20, 30)])
+        >>> s.next_member(5), s.next_member(15), s.next_member(30)
+        (5, 20, None)
+        """
+        return self._next(_core.next_member, value)
+
+    def next_gap(self, value: E) -> E | None:
+        """The least element from one on that is no member, or None if there is none.
+
+        Cost: a search.
+
+        >>> s = RangeSet([(0, 10), (20, None)])
+        >>> s.next_gap(5), s.next_gap(15), s.next_gap(20)
+        (10, 15, None)
+        """
+        return self._next(_core.next_gap, value)
+
+    def prev_member(self, value: E) -> E | None:
+        """The greatest member up to an element, or None if there is none. Of IPv6 addresses and values that sort, which aren't counted,
+        nobody knows it.
+
+        Cost: a search.
+
+        >>> s = RangeSet([(0, 10), (20, 30)])
+        >>> s.prev_member(25), s.prev_member(15), s.prev_member(-1)
+        (25, 9, None)
+        """
+        return self._next(_core.prev_member, value)
+
+    def prev_gap(self, value: E) -> E | None:
+        """The greatest element up to one that is no member, or None if there is none. Of IPv6 addresses and values that sort, which
+        aren't counted, nobody knows it.
+
+        Cost: a search.
+
+        >>> s = RangeSet([(0, 10), (20, 30)])
+        >>> s.prev_gap(25), s.prev_gap(15)
+        (19, 15)
+        """
+        return self._next(_core.prev_gap, value)
+
+    def _next_to(self, value: Any) -> tuple[Any, Kind, int]:
+        """What is asked, the kind, and the number of an element, which of values that sort may lie below all boundaries."""
+        asked, kind = self._seen
+        if kind is NO_KIND:
+            kind = kind_of_first((value,)) or kind
+        return asked, kind, kind.code(value) if kind.is_ordered else kind.number(value)
+
+    def _next(self, call: Any, value: Any) -> E | None:
+        asked, kind, code = self._next_to(value)
+        if kind.is_ordered and call in (_core.prev_member, _core.prev_gap):
+            raise TypeError(kind.uncounted)
+        found = call(asked, code)
+        if kind.is_ordered and found == code:
+            # What isn't a boundary has the number of one.
+            return value  # type: ignore[no-any-return]
+        return None if found is None or found < kind.least else kind.value(found)
 
     def first_fit(self, length: Any, start: E | None = None, end: E | None = None) -> E | None:
         """The first element from `start` on where `length` elements before `end` are no members, or None if there is none. For times

@@ -62,6 +62,14 @@ def given_kind(kind: Any, unsigned: bool | None = None) -> Kind | None:
     return found or whole(unsigned)
 
 
+def asked_kind(kind: Any) -> Kind:
+    """The kind that `astype` asks for."""
+    found = given_kind(kind)
+    if found is None:
+        raise TypeError("expected a kind, not None")
+    return found
+
+
 def kind_of_pickle(name: Any) -> Kind:
     """The kind that a pickle names, or none yet for None."""
     try:

@@ -94,7 +94,12 @@ class MapQuestions(Attributes, Generic[E, V]):
     def __getitem__(self, key: Any) -> Any:
         if isinstance(key, _PARTS):
             return self._part(key)
-        found = self._found(key, NOTHING)
+        try:
+            found = self._found(key, NOTHING)
+        except TypeError:
+            if not _is_range(key):
+                raise
+            return self._part(key)
         if found is NOTHING:
             raise KeyError(key)
         return found
@@ -190,8 +195,7 @@ class MapQuestions(Attributes, Generic[E, V]):
             return agreed((kind.nothing, kind), keys._now)[1:]
         if isinstance(keys, slice) and keys.step is None:
             return range_of(keys.start, keys.stop, kind)
-        # psycopg has such ranges, and pandas such intervals.
-        if isinstance(keys, (range, *NETWORKS)) or hasattr(keys, "lower_inc") or (hasattr(keys, "closed") and not hasattr(keys, "__len__")):
+        if isinstance(keys, (range, *NETWORKS)) or _is_range(keys):
             return range_of(keys, ..., kind)
         found = kind_of(keys)
         if found is not None:
@@ -325,6 +329,11 @@ class MapQuestions(Attributes, Generic[E, V]):
     def _check_kind(self, kind: Kind) -> None:
         if kind is not self._kind and self._kind is not NO_KIND and not are_of_one(kind, self._kind):
             raise TypeError(mixed(self._kind, kind))
+
+
+def _is_range(keys: Any) -> bool:
+    """Whether it is a range of psycopg's or an interval of pandas'."""
+    return hasattr(keys, "lower_inc") or (hasattr(keys, "closed") and not hasattr(keys, "__len__"))
 
 
 def _ends(one: Boundaries) -> tuple[int, int | None]:

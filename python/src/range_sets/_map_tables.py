@@ -3,11 +3,12 @@
 from __future__ import annotations
 
 from ._columns import frame_of, intervals_of
+from ._conversions import codes_of_kind
 from ._kind import NO_KIND, UNSIGNED, Kind
-from ._kinds import given_kind
+from ._kinds import are_of_one, asked_kind, given_kind
 from ._map_columns import columns_with
 from ._map_questions import MapQuestions
-from ._numbers import least, typecode_of
+from ._numbers import least, packed, typecode_of
 from ._sources import _dtype_letter
 from ._typing import TYPE_CHECKING, E, V
 
@@ -16,7 +17,8 @@ if not TYPE_CHECKING:
 else:
     from typing import Any, Iterable, Self, overload
 
-    from ._typing import KindLike
+    from ._maps import RangeMap
+    from ._typing import F, KindLike
 
 
 class MapTables(MapQuestions[E, V]):
@@ -56,6 +58,23 @@ class MapTables(MapQuestions[E, V]):
         made = cls._empty(found)
         made.update(columns_with(starts, ends, values))
         return made
+
+    def astype(self, kind: type[F] | str) -> RangeMap[F, V]:
+        """The map with the same ends of its ranges as keys of another kind, as a set's `astype` makes them. If the other kind hasn't one,
+        it is a ValueError or an OverflowError.
+
+        Cost: goes over all ranges.
+
+        >>> RangeMap([((0, 10), "low")]).astype(float)
+        RangeMap([((0.0, 10.0), 'low')])
+        """
+        codes, known, values = self._codes()
+        found = asked_kind(kind)
+        made: Any = self._empty(known if are_of_one(known, found) else found)
+        if codes:
+            numbers = codes if made._kind is known else codes_of_kind(codes, known, found)
+            made._steps.change(packed([*numbers, *[least(found.unsigned)] * (len(codes) % 2)], found.unsigned), tuple(values))
+        return made  # type: ignore[no-any-return]
 
     def to_frame(self) -> Any:
         """A data frame of pandas with the columns `start`, `end` and `value`, which makes the map again. Times with a zone are in UTC. If

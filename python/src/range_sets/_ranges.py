@@ -11,7 +11,7 @@ from ._conversions import of_kind
 from ._fits import Fits
 from ._kept import _restored, _unpacked
 from ._kind import NO_KIND, Kind
-from ._kinds import ADDRESSES, agreed, given_kind, whole
+from ._kinds import ADDRESSES, agreed, asked_kind, given_kind, whole
 from ._moves import Moves
 from ._numbers import typecode_of
 from ._sources import all_from, boundaries_of, codes_of_range, gather, intersection_of, range_of, ranges_of, sets_of, union_of, values_of
@@ -193,9 +193,9 @@ class AnyRangeSet(Fits[E], Moves[E], Tables[E]):
 
     @classmethod
     def parse(cls, text: str, *, unsigned: bool = False, kind: KindLike[Any] = None) -> AnyRangeSet[Any]:
-        """Reads what `str` writes of whole numbers, or of a kind of floats, dates, times or addresses: ranges in any order, with commas
-        between them. An empty or reversed range has no members. Times may go without seconds. Between commas may also stand a network,
-        one address, or the first and the last with a hyphen.
+        """Reads what `str` writes of whole numbers, or of a kind of floats, dates, times, lengths of time or addresses: ranges in any
+        order, with commas between them. An empty or reversed range has no members. Times may go without seconds. Between commas may also
+        stand a network, one address, or the first and the last with a hyphen.
 
         A text that isn't one of ranges, or has a number that is out of range, raises ParseError with the `position` of the fault
         in characters from 0.
@@ -460,10 +460,7 @@ class AnyRangeSet(Fits[E], Moves[E], Tables[E]):
         >>> RangeSet([(date(2026, 5, 1), None)]).astype("datetime")
         RangeSet([(datetime.datetime(2026, 5, 1, 0, 0), None)])
         """
-        found = given_kind(kind)
-        if found is None:
-            raise TypeError("expected a kind, not None")
-        return self._over(*of_kind(self._now, found))
+        return self._over(*of_kind(self._now, asked_kind(kind)))
 
     def union(self, *others: Source[E]) -> Self:
         """The elements in this set or in another; `|` takes sets alone.

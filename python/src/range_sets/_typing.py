@@ -101,7 +101,7 @@ if TYPE_CHECKING:
     # A range and its value; the end None says that it has no end.
     Item = tuple[tuple[E, Union[E, None]], V]
     # What stands in the brackets of a change, or of a part.
-    Keys = Union[slice, Span[E], Network[E], AnyRangeSet[E]]
+    Keys = Union[slice, Span[E], Network[E], Bounds[E], AnyRangeSet[E]]
     # What a map is made of.
     Items = Union[RangeMap[E, V], Mapping[Any, V], Iterable[tuple[Union[Pair[E], list[E], Span[E], Network[E], AnyRangeSet[E]], V]]]
 else:
