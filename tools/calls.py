@@ -73,7 +73,8 @@ OTHERWISE = {
         "s": SET_OF_PYTHON, "c": SET_OF_PYTHON,
         "m": {
             "__len__": "len is_empty", "__contains__": "contains_key", "__iter__": "keys", "items": "iter", "__setitem__": "insert",
-            "__delitem__": "remove", "range_at": "get_key_value", "find": "where_equal", "update": "insert", "put": "insert", "__eq__": "==",
+            "__delitem__": "remove remove_all", "range_at": "get_key_value", "find": "where_equal", "update": "insert insert_all", "put": "insert",
+            "__eq__": "==",
             "__init__": "from_ranges", "__getitem__": "get",
         },
     },
