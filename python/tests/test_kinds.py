@@ -510,7 +510,7 @@ class OfKinds(unittest.TestCase):
             lambda: RangeSet(kind=[]),
             lambda: RangeSet(kind="date", unsigned=True),
             lambda: RangeSet(kind="unsigned", unsigned=False),
-            lambda: RangeSet(kind=str),
+            lambda: RangeSet(kind=list),
         ):
             with self.assertRaisesRegex(TypeError, "kind"):
                 call()

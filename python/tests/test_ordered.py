@@ -171,6 +171,14 @@ class BesideNumbers(unittest.TestCase):
     def some_pairs(self, made_up, count):
         return [sorted(made_up.choices(range(9), k=2)) if made_up.random() < 0.8 else [made_up.randrange(9), None] for _ in range(count)]
 
+    def test_kinds_by_types(self):
+        self.assertEqual((RangeSet(kind=str).kind, RangeMap(kind=bytes).kind, MutableRangeSet(kind=tuple).kind), ("ordered",) * 3)
+        self.assertEqual(RangeSet([("a", "b")], kind=str), RangeSet([("a", "b")]))
+        self.assertRaises(TypeError, RangeSet, [(0, 5)], kind=bool)
+        named = RangeMap(kind=str)
+        named["a":"c"] = 5
+        self.assertEqual((named["bee"], named.get("c")), (5, None))
+
     def test_sets(self):
         for made_up, elements, has_least, kind in self.each_kind():
             calls = {**QUESTIONS, **CHANGES, **(FROM_THE_LEAST if has_least else {})}

@@ -400,6 +400,7 @@ class OtherForms(unittest.TestCase):
         with self.assertRaises(TypeError):
             eval(repr(made))
         self.assertEqual(RangeSet.parse(str(made)), made)
+        self.assertEqual((f"{RangeSet([(0, 5)]):>8}", f"{MutableRangeSet([(0, 5)])}"), ("    0..5", "0..5"))
 
     def test_copies(self):
         for it in self.made:

@@ -1,4 +1,4 @@
-"""Sets of numbers, times or addresses as the ranges that have them, by a library that is proved on x86-64 Linux.
+"""Sets of numbers, times or addresses as the ranges that have them, by a library whose core is proved on x86-64 Linux.
 
 >>> from range_sets import RangeSet
 >>> print(RangeSet([(0, 10), (20, None)]) - RangeSet([(3, 5)]))

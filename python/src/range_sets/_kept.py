@@ -99,6 +99,9 @@ class Kept(Attributes, _core.Set, Generic[E]):
         texts = [str(it) for it in kind.values(boundaries)]
         return ", ".join(f"{start}..{end}" for start, end in zip(texts[::2], [*texts[1::2], ""]))
 
+    def __format__(self, spec: str) -> str:
+        return format(str(self), spec)
+
     def _repr_svg_(self) -> str:
         from . import _svg
 

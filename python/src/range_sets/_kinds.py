@@ -46,8 +46,8 @@ OF_FLOATS = "kind='float' makes a set of floats"
 _KINDS = (SIGNED, UNSIGNED, FLOAT, DATE, DELTA, ADDRESS, LONG_ADDRESS, NAIVE, AWARE, ORDERED)
 # The kind of each type whose elements have no other.
 _OF_TYPES: dict[type, Kind] = {int: SIGNED, float: FLOAT, date: DATE, timedelta: DELTA, IPv4Address: ADDRESS, IPv6Address: LONG_ADDRESS}
-_NAMED: dict[str | type, Kind] = {it.name: it for it in _KINDS} | _OF_TYPES | {datetime: NAIVE}
 _OF_TYPES |= {str: ORDERED, bytes: ORDERED}
+_NAMED: dict[str | type, Kind] = {it.name: it for it in _KINDS} | _OF_TYPES | {datetime: NAIVE, tuple: ORDERED}
 # What is a range of addresses.
 NETWORKS: tuple[type[IPv4Network], type[IPv6Network]] = (IPv4Network, IPv6Network)
 

@@ -16,6 +16,7 @@ if not TYPE_CHECKING:
 else:
     from typing import Any, Iterable, Self, overload
 
+    from ._sets import MutableRangeSet, RangeSet
     from ._typing import KindLike
 
 
@@ -84,12 +85,22 @@ class Tables(Questions[E]):
 
     @overload
     @classmethod
+    def from_mask(cls: type[RangeSet[Any]], mask: Any, *, unsigned: bool | None = None) -> RangeSet[int]:  # type: ignore[misc]
+        ...
+
+    @overload
+    @classmethod
+    def from_mask(cls: type[MutableRangeSet[Any]], mask: Any, *, unsigned: bool | None = None) -> MutableRangeSet[int]:  # type: ignore[misc]
+        ...
+
+    @overload
+    @classmethod
     def from_mask(cls, mask: Any, start: E, *, unsigned: bool | None = None, kind: KindLike[E] = None) -> Self:
         ...
 
     @overload
     @classmethod
-    def from_mask(cls, mask: Any, *, unsigned: bool | None = None, kind: KindLike[E] = None) -> Self:
+    def from_mask(cls, mask: Any, *, unsigned: bool | None = None, kind: KindLike[E]) -> Self:
         ...
 
     @classmethod
