@@ -17,20 +17,22 @@ if TYPE_CHECKING:
     from typing import Any
 
 
-def of_kind(now: Now, kind: Kind) -> Now:
+def of_kind(now: Now, kind: Kind | None) -> Now:
     """A set of numbers or times without a zone as one of another kind of these. If that hasn't a start or an end, it is a ValueError or
     an OverflowError."""
-    boundaries, found = now
+    codes, found = codes_of_kind(*now, kind)
+    return now if codes is now[0] else (_core.from_boundaries(codes), found)
+
+
+def codes_of_kind(codes: Any, found: Kind, kind: Kind | None) -> tuple[Any, Kind]:
+    """The numbers in another kind of sorted elements of a kind, and that kind."""
+    if kind is None:
+        raise TypeError("expected a kind, not None")
     if are_of_one(found, kind):
-        return now
+        return codes, found
     if found is NO_KIND:
-        return kind.nothing, kind
-    return _core.from_boundaries(codes_of_kind(boundaries, found, kind)), kind
-
-
-def codes_of_kind(codes: Any, found: Kind, kind: Kind) -> array[int]:
-    """The numbers of the same elements in another kind, of sorted ones of a kind."""
-    if _has_times(found) and _has_times(kind):
+        made = []
+    elif _has_times(found) and _has_times(kind):
         made = _codes_of_times((codes, found), kind)
     elif _has_numbers(found) and _has_numbers(kind):
         made = [_code_of_number(it, kind) for it in found.values(codes)]
@@ -38,7 +40,7 @@ def codes_of_kind(codes: Any, found: Kind, kind: Kind) -> array[int]:
         raise TypeError(f"elements of the kind {found.name} are none of the kind {kind.name}")
     for code in (*made[:1], *made[-1:]):
         kind.checked(code)
-    return array(typecode_of(kind.unsigned), made)
+    return array(typecode_of(kind.unsigned), made), kind
 
 
 def of_times(now: Now, kind: Kind | None) -> Now:

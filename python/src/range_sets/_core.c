@@ -273,29 +273,20 @@ static PyObject *core_ends_of_pairs(PyObject *module, PyObject *source)
     return ends;
 }
 
-/* Reads the numbers of a list, or returns false if one isn't from the least to the most. */
-static bool read_codes(PyObject *codes, uint64_t least, uint64_t most, bool is_signed, uint64_t *out)
-{
-    bool fits = true;
-    for (Py_ssize_t i = 0; fits && i < PyList_GET_SIZE(codes); i++)
-        fits = PyLong_CheckExact(PyList_GET_ITEM(codes, i)) && read_number(PyList_GET_ITEM(codes, i), is_signed, &out[i])
-               && is_reversed((Range){out[i], least, true}, is_signed) && is_reversed((Range){most, out[i], true}, is_signed);
-    return fits;
-}
-
 /* The union of ranges by the numbers of their starts and ends in turn, or None if one isn't from the least to the most. */
 static PyObject *core_from_codes(PyObject *module, PyObject *const *args, Py_ssize_t n)
 {
     uint64_t least, most;
-    if (!has_arguments(n, 4)) return NULL;
-    bool is_signed = args[3] == Py_False;
+    bool is_signed = n == 4 && args[3] == Py_False, fits = true;
+    if (!has_arguments(n, 4) || !read_number(args[1], is_signed, &least) || !read_number(args[2], is_signed, &most)) return NULL;
     if (!PyList_CheckExact(args[0])) return PyErr_Format(PyExc_TypeError, "expected a list of numbers");
-    if (!read_number(args[1], is_signed, &least) || !read_number(args[2], is_signed, &most)) return NULL;
-    size_t len = PyList_GET_SIZE(args[0]);
+    Py_ssize_t len = PyList_GET_SIZE(args[0]);
     PyObject *bytes = PyBytes_FromStringAndSize(NULL, 8 * len);
-    if (bytes == NULL) return NULL;
-    if (read_codes(args[0], least, most, is_signed, (uint64_t *)PyBytes_AS_STRING(bytes)))
-        return arranged(bytes, len, is_signed, arrange_from_ranges);
+    uint64_t *out = bytes == NULL ? NULL : (uint64_t *)PyBytes_AS_STRING(bytes);
+    for (Py_ssize_t i = 0; out != NULL && fits && i < len; i++)
+        fits = PyLong_CheckExact(PyList_GET_ITEM(args[0], i)) && read_number(PyList_GET_ITEM(args[0], i), is_signed, &out[i])
+               && is_reversed((Range){out[i], least, true}, is_signed) && is_reversed((Range){most, out[i], true}, is_signed);
+    if (fits) return arranged(bytes, len, is_signed, arrange_from_ranges);
     PyErr_Clear();
     Py_DECREF(bytes);
     Py_RETURN_NONE;

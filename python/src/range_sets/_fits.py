@@ -54,8 +54,7 @@ class Fits(Questions[E]):
         return self._next(_core.next_gap, value)
 
     def prev_member(self, value: E) -> E | None:
-        """The greatest member up to an element, or None if there is none. Of IPv6 addresses and values that sort, which aren't counted,
-        nobody knows it.
+        """The greatest member up to an element, or None if there is none. IPv6 addresses and values that sort aren't counted, and have none.
 
         Cost: a search.
 
@@ -66,8 +65,7 @@ class Fits(Questions[E]):
         return self._next(_core.prev_member, value)
 
     def prev_gap(self, value: E) -> E | None:
-        """The greatest element up to one that is no member, or None if there is none. Of IPv6 addresses and values that sort, which
-        aren't counted, nobody knows it.
+        """The greatest element up to one that is no member, or None if there is none, of what `prev_member` takes.
 
         Cost: a search.
 
@@ -149,10 +147,7 @@ class Fits(Questions[E]):
         else:
             first, last = kind.checked(kind.start(start)), kind.end(end)
             before, end = kind.most if last is None else kind.checked(last), last
-        if count >= 2**64:
-            found = None
-        else:
-            found = call(asked, first, before, count) if align is None else call(asked, first, before, count, multiple)
+        found = None if count >= 2**64 else call(asked, first, before, count, *([] if align is None else [multiple]))
         if found is None and end is None:
             # Elements up to the greatest one, which no end is above: a run of them is one range without an end.
             at = before - count + 1

@@ -24,24 +24,18 @@ PyObject *core_mirror(PyObject *module, PyObject *const *args, Py_ssize_t n)
     return fits ? Py_NewRef(Py_None) : NULL;
 }
 
-/* The numbers of a list of floats, or None if one is none of Python's, or NaN. */
+/* The number of a float of Python's that isn't NaN. */
+static bool read_float(PyObject *value, bool unused, int64_t *number)
+{
+    double found = PyFloat_Check(value) ? PyFloat_AS_DOUBLE(value) : NAN;
+    memcpy(number, &found, sizeof found);
+    *number = mirrored(*number);
+    return !isnan(found);
+}
+
 PyObject *core_numbers_of_floats(PyObject *module, PyObject *values)
 {
-    PyObject *numbers = PyList_CheckExact(values) ? PyList_New(0) : PyErr_Format(PyExc_TypeError, "expected a list of floats");
-    for (Py_ssize_t i = 0; numbers != NULL && i < PyList_GET_SIZE(values); i++) {
-        PyObject *value = PyList_GET_ITEM(values, i);
-        double found = PyFloat_Check(value) ? PyFloat_AS_DOUBLE(value) : NAN;
-        if (isnan(found)) {
-            Py_SETREF(numbers, Py_NewRef(Py_None));
-            break;
-        }
-        int64_t bits;
-        memcpy(&bits, &found, sizeof bits);
-        PyObject *number = PyLong_FromLongLong(mirrored(bits));
-        if (number == NULL || PyList_Append(numbers, number) < 0) Py_CLEAR(numbers);
-        Py_XDECREF(number);
-    }
-    return numbers;
+    return numbers_of(values, read_float, false);
 }
 
 /* ---- Sums ---- */

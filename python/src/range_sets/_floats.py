@@ -19,13 +19,6 @@ if TYPE_CHECKING:
 _FLOAT, _NUMBER = Struct("d"), Struct("q")
 
 
-def mirrored(numbers: Any) -> memoryview:
-    """The numbers of floats from a buffer of their bits, or the bits from one of the numbers."""
-    made = array("q", bytes(8 * len(numbers)))
-    _core.mirror(numbers, made)
-    return memoryview(made)
-
-
 class Float(Kind):
     """Floats by their bits; the number of one below zero is minus the bits of its absolute value, so numbers sort as floats do."""
 
@@ -50,7 +43,9 @@ class Float(Kind):
         return found if code >= 0 else -found
 
     def values(self, codes: Any) -> Iterator[float]:
-        return iter(mirrored(codes).cast("B").cast("d"))
+        made = array("d", bytes(8 * len(codes)))
+        _core.mirror(codes, memoryview(made).cast("B").cast("q"))
+        return iter(made)
 
     def codes_of_one(self, value: Any) -> tuple[int, int | None]:
         raise TypeError(f"{UNCOUNTED}: expected a start and an end")

@@ -62,14 +62,6 @@ def given_kind(kind: Any, unsigned: bool | None = None) -> Kind | None:
     return found or whole(unsigned)
 
 
-def asked_kind(kind: Any) -> Kind:
-    """The kind that `astype` asks for."""
-    found = given_kind(kind)
-    if found is None:
-        raise TypeError("expected a kind, not None")
-    return found
-
-
 def kind_of_pickle(name: Any) -> Kind:
     """The kind that a pickle names, or none yet for None."""
     try:
@@ -105,8 +97,7 @@ def whole(unsigned: bool) -> Whole:
 
 def kind_of(value: Any) -> Kind | None:
     """The kind of an element, or None if it is none."""
-    found = _OF_TYPES.get(type(value))
-    if found is not None:
+    if (found := _OF_TYPES.get(type(value))) is not None:
         return found
     if isinstance(value, datetime):
         if value.tzinfo is not None and value.utcoffset() is not None:

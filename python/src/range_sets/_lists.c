@@ -282,6 +282,24 @@ bool read_number(PyObject *object, bool is_signed, uint64_t *bits)
                                                          : "expected a number from 0 to 2**64 - 1");
 }
 
+PyObject *numbers_of(PyObject *values, bool (*read)(PyObject *value, bool is_aware, int64_t *number), bool is_aware)
+{
+    /* A zone may change the list. */
+    PyObject *each = PySequence_Tuple(values);
+    PyObject *numbers = each == NULL ? NULL : PyList_New(PyTuple_GET_SIZE(each));
+    for (Py_ssize_t i = 0; numbers != NULL && i < PyTuple_GET_SIZE(each); i++) {
+        int64_t number;
+        bool has_number = read(PyTuple_GET_ITEM(each, i), is_aware, &number);
+        PyObject *made = has_number ? PyLong_FromLongLong(number) : NULL;
+        if (made != NULL) PyList_SET_ITEM(numbers, i, made);
+        else if (has_number || PyErr_Occurred()) Py_CLEAR(numbers);
+        else Py_SETREF(numbers, Py_NewRef(Py_None));
+        if (numbers == Py_None) break;
+    }
+    Py_XDECREF(each);
+    return numbers;
+}
+
 bool read_range(PyObject *start, PyObject *end, bool is_signed, Range *range)
 {
     range->has_end = end != Py_None;

@@ -58,6 +58,9 @@ PyObject *as_python(uint64_t bits, bool is_signed);
 bool read_number(PyObject *object, bool is_signed, uint64_t *bits);
 bool read_range(PyObject *start, PyObject *end, bool is_signed, Range *range);
 
+/* The numbers of a list's values by a call that reads one, of times with a zone or without one; or None if one has none. */
+PyObject *numbers_of(PyObject *values, bool (*read)(PyObject *value, bool is_aware, int64_t *number), bool is_aware);
+
 /* The range that stands at a place in a sorted list. */
 Range range_in(const List *list, size_t place);
 

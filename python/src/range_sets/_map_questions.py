@@ -274,8 +274,7 @@ class MapQuestions(Attributes, Generic[E, V]):
         if known.is_ordered:
             return [*self._steps.items(*codes_of_range(start, end, known)[:2])]
         wanted, kind = range_of(start, end, known)
-        if kind is not known:
-            self._check_kind(kind)
+        self._check_kind(kind)
         return [*self._steps.items(*_ends(wanted))] if wanted else []
 
     def gaps(self, start: E | None = None, end: E | None = None) -> RangeSet[E]:
@@ -290,8 +289,7 @@ class MapQuestions(Attributes, Generic[E, V]):
         if known.is_ordered:
             return self.domain().gaps(start, end)
         wanted, kind = range_of(start, end, known)
-        if kind is not known:
-            self._check_kind(kind)
+        self._check_kind(kind)
         if wanted and known is kind:
             wanted = _core.difference(wanted, self._steps.domain(*_ends(wanted)))
         return RangeSet._over(wanted, kind)
@@ -349,6 +347,6 @@ def numbered_with(steps: Steps, ends: Iterable[int], kind: Any) -> tuple[Steps, 
     known = sorted({*mine} - {none})
     keys, left, right = merged([*map(steps.kind.keys.__getitem__, known)] if isinstance(steps.kind, Ordered) else [], kind.keys)
     numbers = dict(zip(known, left))
-    made = Steps(kind.over(keys), False)
+    made = Steps(type(kind)(keys), False)
     made.change(packed((numbers.get(it, none) for it in mine), False), values)
     return made, [none if it == none else right[it] for it in ends]

@@ -5,7 +5,7 @@ from __future__ import annotations
 from ._columns import frame_of, intervals_of
 from ._conversions import codes_of_kind
 from ._kind import NO_KIND, UNSIGNED, Kind
-from ._kinds import are_of_one, asked_kind, given_kind
+from ._kinds import given_kind
 from ._map_columns import columns_with
 from ._map_questions import MapQuestions
 from ._numbers import least, packed, typecode_of
@@ -69,11 +69,9 @@ class MapTables(MapQuestions[E, V]):
         RangeMap([((0.0, 10.0), 'low')])
         """
         codes, known, values = self._codes()
-        found = asked_kind(kind)
-        made: Any = self._empty(known if are_of_one(known, found) else found)
-        if codes:
-            numbers = codes if made._kind is known else codes_of_kind(codes, known, found)
-            made._steps.change(packed([*numbers, *[least(found.unsigned)] * (len(codes) % 2)], found.unsigned), tuple(values))
+        codes, found = codes_of_kind(codes, known, given_kind(kind))
+        made: Any = self._empty(found)
+        made._steps.change(packed([*codes, *[least(found.unsigned)] * (len(codes) % 2)], found.unsigned), tuple(values))
         return made  # type: ignore[no-any-return]
 
     def to_frame(self) -> Any:

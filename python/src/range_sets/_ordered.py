@@ -35,10 +35,6 @@ class Ordered(Kind):
         # What stands for the boundaries, which are sorted. It is never changed.
         self.keys, self.most = keys, len(keys) - 1
 
-    def over(self, keys: Sequence[Any]) -> Ordered:
-        """The kind of sorted boundaries."""
-        return type(self)(keys)
-
     def key(self, value: Any) -> Any:
         """What stands for a value."""
         return value
@@ -87,7 +83,7 @@ class Ordered(Kind):
 
     def _sorted(self, keys: Iterable[Any]) -> Ordered:
         in_order = sorted(keys)
-        return self.over(in_order[:1] + [after for before, after in pairwise(in_order) if before < after])
+        return type(self)(in_order[:1] + [after for before, after in pairwise(in_order) if before < after])
 
     def kept(self, boundaries: Boundaries) -> Sequence[Any]:
         """What stands for the boundaries of a set."""
@@ -97,12 +93,12 @@ class Ordered(Kind):
         """The set whose kind has its boundaries alone. The extension asks for it where it makes a set."""
         if len(boundaries) == len(self.keys):
             return boundaries, self
-        return list_of(range(len(boundaries))), self.over(self.kept(boundaries))
+        return list_of(range(len(boundaries))), type(self)(self.kept(boundaries))
 
     def agreed(self, mine: Boundaries, other: Ordered, others: Boundaries) -> tuple[Boundaries, Boundaries, Kind]:
         """The boundaries of two sets by one kind, which has those of both."""
         keys, left, right = merged(self.kept(mine), other.kept(others))
-        return list_of(left), list_of(right), self.over(keys)
+        return list_of(left), list_of(right), type(self)(keys)
 
     def agreed_of(self, sets: list[Now]) -> tuple[list[Boundaries], Kind]:
         """The same of many sets."""
@@ -138,7 +134,7 @@ class Ordered(Kind):
         """The kind of a pickle's boundaries, which are checked anew."""
         if type(keys) is not tuple or not all(before < after for before, after in pairwise(keys)):
             raise ValueError(f"expected sorted boundaries of the kind {self.name!r}")
-        return self.over(keys)
+        return type(self)(keys)
 
 
 class LongAddresses(Ordered):

@@ -11,7 +11,7 @@ from ._conversions import of_kind
 from ._fits import Fits
 from ._kept import _restored, _unpacked
 from ._kind import NO_KIND, Kind
-from ._kinds import ADDRESSES, agreed, asked_kind, given_kind, whole
+from ._kinds import ADDRESSES, agreed, given_kind, whole
 from ._moves import Moves
 from ._numbers import typecode_of
 from ._sources import all_from, boundaries_of, codes_of_range, gather, intersection_of, range_of, ranges_of, sets_of, union_of, values_of
@@ -460,7 +460,7 @@ class AnyRangeSet(Fits[E], Moves[E], Tables[E]):
         >>> RangeSet([(date(2026, 5, 1), None)]).astype("datetime")
         RangeSet([(datetime.datetime(2026, 5, 1, 0, 0), None)])
         """
-        return self._over(*of_kind(self._now, asked_kind(kind)))
+        return self._over(*of_kind(self._now, given_kind(kind)))
 
     def union(self, *others: Source[E]) -> Self:
         """The elements in this set or in another; `|` takes sets alone.

@@ -110,8 +110,7 @@ class RangeSet(AnyRangeSet[E]):
         >>> RangeSet([(0, 10)]).insert(5, 15)
         RangeSet([(0, 15)])
         """
-        left, right, kind = agreed(self._now, range_of(start, end, self._now[1]))
-        return self._over(_core.union(left, right), kind)
+        return self._combined(_core.union, range_of(start, end, self._now[1]))
 
     @overload
     def remove(self, start: OneRange[E]) -> Self:
@@ -129,8 +128,7 @@ class RangeSet(AnyRangeSet[E]):
         >>> RangeSet([(0, 10)]).remove(3, 5)
         RangeSet([(0, 3), (5, 10)])
         """
-        left, right, kind = agreed(self._now, range_of(start, end, self._now[1]))
-        return self._over(_core.difference(left, right), kind)
+        return self._combined(_core.difference, range_of(start, end, self._now[1]))
 
 
 class MutableRangeSet(AnyRangeSet[E]):

@@ -57,19 +57,5 @@ PyObject *core_number_of_time(PyObject *module, PyObject *const *args, Py_ssize_
 /* The same of each time of a list, or None if one has no number. */
 PyObject *core_numbers_of_times(PyObject *module, PyObject *const *args, Py_ssize_t n)
 {
-    if (!has_arguments(n, 2) || !is_ready()) return NULL;
-    /* A zone may change the list. */
-    PyObject *times = PySequence_Tuple(args[0]);
-    PyObject *numbers = times == NULL ? NULL : PyList_New(PyTuple_GET_SIZE(times));
-    for (Py_ssize_t i = 0; numbers != NULL && i < PyTuple_GET_SIZE(times); i++) {
-        int64_t number;
-        bool is_time = read_time(PyTuple_GET_ITEM(times, i), args[1] == Py_True, &number);
-        PyObject *made = is_time ? PyLong_FromLongLong(number) : NULL;
-        if (made != NULL) PyList_SET_ITEM(numbers, i, made);
-        else if (is_time || PyErr_Occurred()) Py_CLEAR(numbers);
-        else Py_SETREF(numbers, Py_NewRef(Py_None));
-        if (numbers == Py_None) break;
-    }
-    Py_XDECREF(times);
-    return numbers;
+    return has_arguments(n, 2) && is_ready() ? numbers_of(args[0], read_time, args[1] == Py_True) : NULL;
 }

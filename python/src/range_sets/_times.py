@@ -214,8 +214,7 @@ _OF_DTYPES: dict[Any, Kind] = {}
 
 def of_dtype(dtype: Any) -> Kind:
     """The kind of numpy's times of a unit: one for each, also if two threads ask for it at once."""
-    found = _OF_DTYPES.get(dtype)
-    if found is None:
+    if (found := _OF_DTYPES.get(dtype)) is None:
         if dtype.kind != "M" or "[" not in dtype.name:
             raise TypeError(f"expected numpy's datetime64 of a unit, not {dtype.name}")
         native = dtype.newbyteorder("=")
