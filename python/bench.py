@@ -329,6 +329,7 @@ def of_many(count):
         row("`s & few`", lambda: many & few),
         row("`m.add(a, b)`", changed(lambda start: None)),
         row("`s.rank(a)`", lambda: many.rank(5005)),
+        row("`s.next_gap(a)`", lambda: many.next_gap(5005)),
         row("`s.split(a)`", lambda: many.split(10 * count + 5)),
         row("`s == t`", lambda: many == copied, times=1),
         row("`pickle.loads`", lambda: pickle.loads(packed), times=1),

@@ -274,7 +274,8 @@ class MapQuestions(Attributes, Generic[E, V]):
         if known.is_ordered:
             return [*self._steps.items(*codes_of_range(start, end, known)[:2])]
         wanted, kind = range_of(start, end, known)
-        self._check_kind(kind)
+        if known is not kind:
+            self._check_kind(kind)
         return [*self._steps.items(*_ends(wanted))] if wanted else []
 
     def gaps(self, start: E | None = None, end: E | None = None) -> RangeSet[E]:
@@ -289,8 +290,9 @@ class MapQuestions(Attributes, Generic[E, V]):
         if known.is_ordered:
             return self.domain().gaps(start, end)
         wanted, kind = range_of(start, end, known)
-        self._check_kind(kind)
-        if wanted and known is kind:
+        if known is not kind:
+            self._check_kind(kind)
+        elif wanted:
             wanted = _core.difference(wanted, self._steps.domain(*_ends(wanted)))
         return RangeSet._over(wanted, kind)
 

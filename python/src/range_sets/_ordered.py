@@ -25,8 +25,7 @@ class Ordered(Kind):
     """
 
     name, element, plural = "ordered", "a value that sorts", "values that sort"
-    least = 0
-    is_ordered, is_in_chunks = True, False
+    is_ordered, is_in_chunks, least = True, False, 0
     uncounted = "values that sort aren't counted one by one"
     # The least value of each type that has one, and what an error says of others.
     leasts: tuple[tuple[type, Any], ...] = ((str, ""), (bytes, b""), (tuple, ()))
