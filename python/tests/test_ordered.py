@@ -61,6 +61,7 @@ QUESTIONS = {
     "in": lambda s, t, a, b: a in s,
     "covers": lambda s, t, a, b: (s.covers(a, b), s.covers((b, a)), s.covers(a, None)),
     "range_at": lambda s, t, a, b: s.range_at(a),
+    "next ones": lambda s, t, a, b: (s.range_from(a), s.next_member(a), s.next_gap(a)),
     "overlapping": lambda s, t, a, b: (s.overlapping(a, b), s.overlapping((a, None))),
     "gaps": lambda s, t, a, b: (s.gaps(a, b), s.gaps(a)),
     "split": lambda s, t, a, b: s.split(a),
