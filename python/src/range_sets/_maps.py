@@ -59,8 +59,8 @@ class RangeMap(MapTables[E, V]):
 
     It is made of pairs of a range or set and a value, of a dict of these, or of another map; of a data frame of pandas with columns of
     starts, ends and values, or of a series by intervals. Where ranges overlap, the later one's value holds. Keys are of one kind, as those
-    of a `RangeSet`, and the length is the number of ranges. In brackets a key has a value, and a slice, a `range`, a network or a set is a
-    part: it is changed, or read as another map.
+    of a `RangeSet`, and the length is the number of ranges. In brackets a key has a value, and a slice, a `range`, a network, an interval of
+    pandas' or a set is a part: it is changed, or read as another map.
 
     Calls that touch a few ranges take some microseconds also of a million, and `items`, `domain`, `find` and `==` go over all. So does the
     first search or change of a map that was made of ranges in order, as of a copy or a pickle. Of keys
@@ -144,7 +144,7 @@ class RangeMap(MapTables[E, V]):
 
     def modify(self, part: Keys[E], function: Callable[[V], V], missing: V = NOTHING) -> None:
         """Gives the keys in a part what a function makes of their values. Keys that have none get none, or with `missing` what it makes
-        of this. A part is what stands in brackets: a slice, a `range`, a network or a set.
+        of this. A part is what stands in brackets, as a slice or a set.
 
         The function runs once for each object. What it raises is raised, and the map doesn't change.
 
