@@ -63,9 +63,9 @@ class RangeMap(MapTables[E, V]):
     pandas' or a set is a part: it is changed, or read as another map.
 
     Calls that touch a few ranges take some microseconds also of a million, and `items`, `domain`, `find` and `==` go over all. So does the
-    first search or change of a map that was made of ranges in order, as of a copy or a pickle. Of keys
-    that sort, as texts, each change and each part goes over all. To checkers of types it is a `RangeMap[E, V]`. They refuse slices of
-    dates: `put`, `remove` and `part` do the same.
+    first search or change of a map that was made of ranges in order, as of a copy or a pickle. Of keys that sort, as texts, each change
+    and each part goes over all. To checkers of types it is a `RangeMap[E, V]`. They refuse slices of all but whole numbers: `put`, `remove`
+    and `part` do the same.
 
     A loop over a map may give the ranges that it reads other values. One that leaves it more or fewer ranges raises a RuntimeError, as
     over a dict: go over `list(m.items())` then. Over a map whose keys sort it goes on over what the map was.
