@@ -147,7 +147,8 @@ class Fits(Questions[E]):
         else:
             first, last = kind.checked(kind.start(start)), kind.end(end)
             before, end = kind.most if last is None else kind.checked(last), last
-        found = None if count >= 2**64 else call(asked, first, before, count, *([] if align is None else [multiple]))
+        given = (asked, first, before, count) if align is None else (asked, first, before, count, multiple)
+        found = None if count >= 2**64 else call(*given)
         if found is None and end is None:
             # Elements up to the greatest one, which no end is above: a run of them is one range without an end.
             at = before - count + 1

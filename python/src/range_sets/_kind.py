@@ -31,10 +31,6 @@ class Kind:
     """
 
     name: str
-    element: str
-    plural: str
-    least: int
-    most: int
     unsigned = is_whole = False
     # The boundaries of the empty set.
     nothing = _core.range_list(0, 0, False)
@@ -55,6 +51,8 @@ class Kind:
     def __init__(self, name: str, element: str, least: int, most: int, plural: str) -> None:
         self.name, self.element, self.least, self.most, self.plural = name, element, least, most, plural
         self.is_open_below = least != 0
+        # Python finds what a kind has itself before what its class has, and these are asked for most.
+        self.is_whole, self.is_ordered, self.is_in_chunks = self.is_whole, self.is_ordered, self.is_in_chunks
 
     def code(self, value: Any) -> int:
         """The number of an element, which may lie outside of the kind's; a TypeError if it is no element of the kind."""
