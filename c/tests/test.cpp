@@ -23,6 +23,7 @@
 #include <vector>
 
 using range_sets::chunked_range_set;
+using range_sets::from;
 using range_sets::range;
 using range_sets::range_set;
 using range_sets::range_set_view;
@@ -198,6 +199,27 @@ template <class T> struct fickle {
     }
 };
 
+// Whether the set has other members after a change.
+template <class T, class Set> static void has_changed()
+{
+    Set set;
+    check(set.insert_changed({9, 12}) && !set.insert_changed({10, 12}) && set.text() == "9..12", "insert_changed");
+    check(!set.insert_changed(12, 12) && !set.insert_changed(15, 13) && set.insert_changed(11, 15) && set.text() == "9..15", "no numbers");
+    check(!set.remove_changed(15, 20) && !set.remove_changed(8, 9) && set.remove_changed({10, 12}), "remove_changed");
+    check(!set.remove_changed(10, 12) && set.text() == "9..10, 12..15" && set.insert_changed(from(20)), "insert_changed, open");
+    check(!set.insert_changed(from(25)) && set.insert_changed(from(13)) && set.text() == "9..10, 12..", "in an open range");
+    check(set.remove_changed(from(30)) && !set.remove_changed(from(30)) && set.text() == "9..10, 12..30", "remove_changed, open");
+    check(set.insert_changed(from(30)) && !set.insert_changed(from(12)) && set.text() == "9..10, 12..", "a range that gets no end");
+    check(set.remove_changed(from(0)) && !set.remove_changed(from(0)) && !set.remove_changed(0, 5) && set.empty(), "all, and none");
+    for (unsigned round = 0; round < 600; round++) {
+        const Set before(set);
+        const T start = static_cast<T>(random_below(700)), end = static_cast<T>(random_below(700));
+        const bool changed = round % 3 == 2 ? set.remove_changed(start, end) : set.insert_changed(start, end);
+        check(changed == (set != before), "made up: whether a change has changed the set");
+        if (round % 50 == 49) set.remove_from(static_cast<T>(start / 2));
+    }
+}
+
 // What a set is made of beside a std::vector and a std::map of pairs.
 template <class T> static void sources()
 {
@@ -259,7 +281,8 @@ template <class Set, class Number> static bool refuses(Set &set, Number x)
            && doesnt_fit([&] { set.first_fit_aligned(x, 7, 1, 1); }) && doesnt_fit([&] { set.first_fit_aligned(7, x, 1, 1); })
            && doesnt_fit([&] { set.first_run(x, 7, 1); }) && doesnt_fit([&] { set.first_run(7, x, 1); })
            && doesnt_fit([&] { set.insert(x, 7); }) && doesnt_fit([&] { set.insert(7, x); }) && doesnt_fit([&] { set.remove(x, 7); })
-           && doesnt_fit([&] { set.remove(7, x); }) && doesnt_fit([&] { set.insert_from(x); }) && doesnt_fit([&] { set.remove_from(x); });
+           && doesnt_fit([&] { set.remove(7, x); }) && doesnt_fit([&] { set.insert_from(x); }) && doesnt_fit([&] { set.remove_from(x); })
+           && doesnt_fit([&] { set.insert_changed(x, 7); }) && doesnt_fit([&] { set.remove_changed(7, x); });
 }
 
 // Whether a set says whether such a number is a member.
@@ -521,6 +544,24 @@ template <class T> static void chunked()
         "chunked: as many ranges, and others");
 }
 
+// Two sets of any kinds answer and are joined as two lists with their members, also where the first one changes.
+template <class T, class A, class B> static void as_two_lists(const A &x, const B &y, const range_set<T> &a, const range_set<T> &b)
+{
+    check((x == y) == (a == b) && (x != y) == (a != b) && (x < y) == (a < b) && (x > y) == (a > b), "two kinds: ==, !=, < and >");
+    check((x <= y) == (a <= b) && (x >= y) == (a >= b) && x.compare(y) == a.compare(b), "two kinds: <=, >= and compare");
+#ifdef __cpp_lib_three_way_comparison
+    check((x <=> y) == (a <=> b), "two kinds: <=>");
+#endif
+    check(x.is_subset(y) == a.is_subset(b) && x.is_superset(y) == a.is_superset(b), "two kinds: is_subset, is_superset");
+    check(x.is_disjoint(y) == a.is_disjoint(b) && x.intersects(y) == a.intersects(b), "two kinds: is_disjoint, intersects");
+    check((x | y) == (a | b) && (x & y) == (a & b) && (x - y) == (a - b) && (x ^ y) == (a ^ b), "two kinds: operators");
+    check(range_set<T>::combine(x, y, RANGE_SET_NEITHER) == ~(a | b), "two kinds: combine");
+    if constexpr (!std::is_same_v<A, range_set_view<T>>) {
+        A joined(x), common(x), rest(x), either(x);
+        check((joined |= y) == (a | b) && (common &= y) == (a & b) && (rest -= y) == (a - b) && (either ^= y) == (a ^ b), "two kinds: |=");
+    }
+}
+
 // What sets in chunks have of lists: operations on sets of any kind, parts, members, text, and what they are made of.
 template <class T> static void chunked_as_lists()
 {
@@ -536,26 +577,43 @@ template <class T> static void chunked_as_lists()
         }
         if (round % 3 == 0) a.insert_from(static_cast<T>(random_below(3000)));
         const chunks x(a), y(b);
-        check((x | y).set() == (a | b) && (x | b).set() == (a | b) && (a | y).set() == (a | b), "chunked: |");
-        check((x & y).set() == (a & b) && (x & b).set() == (a & b) && (a & y).set() == (a & b), "chunked: &");
-        check((x - y).set() == (a - b) && (x - b.view()).set() == (a - b) && (a.view() - y).set() == (a - b), "chunked: -");
-        check((x ^ y).set() == (a ^ b) && (x ^ b).set() == (a ^ b) && (~x).set() == ~a, "chunked: ^ and ~");
-        chunks joined(x), common(x), rest(x), either(x), same(x);
+        static_assert(std::is_same_v<decltype(x | b), chunks> && std::is_same_v<decltype(a.view() - y), chunks>, "in chunks");
+        as_two_lists(x, y, a, b);
+        as_two_lists(x, b, a, b);
+        as_two_lists(x, b.view(), a, b);
+        as_two_lists(a, y, a, b);
+        as_two_lists(a.view(), y, a, b);
+        for (const range_set<T> &part : {a & b, a, ~a, a | b}) as_two_lists(x, chunks(part), a, part);
+        chunks same(x);
         const chunks &itself = same;
-        joined |= y, common &= b, rest -= b.view(), either ^= y, same &= itself;
-        check(joined.set() == (a | b) && common.set() == (a & b) && rest.set() == (a - b) && either.set() == (a ^ b) && same == x,
-            "chunked: in place");
+        check((same &= itself) == x && (same -= itself).empty(), "chunked: in place, of itself");
+        check((~x).set() == ~a && x.negation() == ~a && *chunks::parse(a.text()) == x, "chunked: ~ and parse");
         const T start = static_cast<T>(random_below(3000)), end = static_cast<T>(start + static_cast<T>(random_below(3000)));
         check(x.gaps(start, end) == a.gaps(start, end) && x.ranges_within(start, end) == a.ranges_within(start, end), "chunked: parts");
         range_set<T> whole;
         for (const auto it : a)
             if (start < end && it.start < end && (!it.has_end || it.end > start)) whole.insert(it);
         check(x.overlapping(start, end) == whole && x.overlapping(end, start).empty() && x.text() == a.text(), "chunked: overlapping");
+        const auto [below, above] = x.split(start);
+        check(below == a.split(start).first && above == a.split(start).second, "chunked: split");
+        const T asked[] = {start, end, static_cast<T>(start + 1), static_cast<T>(end + 1)};
+        bool of_list[4] = {}, of_chunks[4] = {};
+        check(a.contains_each(asked, 4, of_list) && x.contains_each(asked, 4, of_chunks) && std::equal(of_list, of_list + 4, of_chunks),
+            "chunked: contains_each");
         if (round % 3 == 0) continue;
         const auto members = a.members();
-        const auto of_chunks = x.members();
-        check(std::equal(members.begin(), members.end(), of_chunks.begin(), of_chunks.end()), "chunked: members");
+        const auto in_chunks = x.members();
+        check(std::equal(members.begin(), members.end(), in_chunks.begin(), in_chunks.end()), "chunked: members");
+        check(chunks::from_values(std::vector<T>(in_chunks.begin(), in_chunks.end())) == x, "chunked: from_values");
     }
+    std::size_t fault = 0;
+    check(chunks::from_values({14, 9, 12, 9}).text() == "9..10, 12..13, 14..15", "chunked: from_values in braces");
+    check(chunks::parse("1..3\n7", '\n')->text() == "1..3, 7..8" && !chunks::parse("1..2;3", &fault) && fault == 4, "chunked: parse");
+    check(chunks{{1, 4}}.is_subset({{0, 3}, {3, 9}}) && chunks{{1, 4}}.intersects({from(3)}) && !chunks{{1, 4}}.is_superset({{0, 2}}),
+        "chunked: sets in braces");
+    bool within = false;
+    static_assert(noexcept(range_set<T>().is_subset(range_set_view<T>())), "of lists");
+    check(!chunks{{1, 4}}.contains_each(nullptr, 1, &within), "chunked: contains_each of null");
     chunks top, none;
     top.insert_from(static_cast<T>(std::numeric_limits<T>::max() - 1));
     const auto members = top.members();
@@ -888,6 +946,8 @@ template <class T> static void all()
     in_place<T>();
     chunked<T>();
     chunked_as_lists<T>();
+    has_changed<T, range_set<T>>();
+    has_changed<T, chunked_range_set<T>>();
     views_of_temporaries<T>();
     order<T>();
     hashes<T>();

@@ -23,7 +23,8 @@ template <class T> struct calls_of;
     RANGE_SET_CALL(kind, rank) RANGE_SET_CALL(kind, select) RANGE_SET_CALL(kind, first_run)
 // These of a set in chunks change it, or what it remembers.
 #define RANGE_SET_CHANGES(kind) \
-    RANGE_SET_CALL(kind, insert) RANGE_SET_CALL(kind, remove) RANGE_SET_CALL(kind, first_fit) RANGE_SET_CALL(kind, first_fit_aligned)
+    RANGE_SET_CALL(kind, insert) RANGE_SET_CALL(kind, remove) RANGE_SET_CALL(kind, first_fit) RANGE_SET_CALL(kind, first_fit_aligned) \
+    RANGE_SET_CALL(kind, insert_changed) RANGE_SET_CALL(kind, remove_changed)
 #define RANGE_SET_CALLS(number, T) \
     template <> struct calls_of<T> { \
         using value = T; \

@@ -12,7 +12,6 @@
 #include <iterator>
 #include <limits>
 #include <optional>
-#include <ostream>
 #include <string>
 #include <type_traits>
 #include <utility>
@@ -46,7 +45,11 @@ template <class Calls> struct owner {
 
 // A set that is changed range by range, and may grow to millions of ranges: a change takes about as long in a large set as in a
 // small one. Threads may share a set that none changes, and make calls of it that are const.
-template <class T> class chunked_range_set : public detail::questions<T, chunked_range_set<T>, detail::chunked_calls<T>> {
+template <class T>
+class chunked_range_set : detail::operators<T, detail::listed<T>, chunked_range_set<T>>,
+                          public detail::questions<T, chunked_range_set<T>, detail::chunked_calls<T>>,
+                          public detail::relations<T, chunked_range_set<T>>,
+                          public detail::changes<T, chunked_range_set<T>, detail::chunked_calls<T>> {
     using calls = detail::chunked_calls<T>;
     using list = typename detail::calls<T>::set;
     using number = typename detail::calls<T>::value;
@@ -148,12 +151,6 @@ public:
         number at_ = {};
     };
 
-    // A set of any kind that an operator takes, as a list.
-    struct listed : detail::operand<T> {
-        using detail::operand<T>::operand;
-        listed(const chunked_range_set &from) : detail::operand<T>(std::optional(from.set())) {}
-    };
-
     // The set without a member. It takes no memory.
     chunked_range_set() noexcept = default;
     // A copy of a set.
@@ -173,17 +170,26 @@ public:
         return *this;
     }
     ~chunked_range_set() = default;
+
+    // The set of single numbers; and of a text, or nothing if that isn't one of ranges. They take what
+    // these calls of a range_set take.
+    template <class Values> static chunked_range_set from_values(const Values &values)
+    {
+        return chunked_range_set(range_set<T>::from_values(values));
+    }
+    static chunked_range_set from_values(std::initializer_list<T> values) { return from_values<std::initializer_list<T>>(values); }
+    template <class... Text> static std::optional<chunked_range_set> parse(const Text &...text)
+    {
+        const auto list = range_set<T>::parse(text...);
+        return list ? std::optional<chunked_range_set>(*list) : std::nullopt;
+    }
+
     void swap(chunked_range_set &other) noexcept { std::swap(owner_, other.owner_); }
     friend void swap(chunked_range_set &a, chunked_range_set &b) noexcept { a.swap(b); }
 
-    // Puts the numbers from `start` to below `end` in, takes them out; or all from `start` on.
-    chunked_range_set &insert(integer start, integer end) { return change(calls::insert, start, end); }
-    chunked_range_set &remove(integer start, integer end) { return change(calls::remove, start, end); }
+    // Puts all numbers from `start` on in, takes them out.
     chunked_range_set &insert_from(integer start) { return change(calls::insert_from, start); }
     chunked_range_set &remove_from(integer start) { return change(calls::remove_from, start); }
-    // The same of a range, which may have no end.
-    chunked_range_set &insert(const range<T> &it) { return it.has_end ? insert(it.start, it.end) : insert_from(it.start); }
-    chunked_range_set &remove(const range<T> &it) { return it.has_end ? remove(it.start, it.end) : remove_from(it.start); }
     // Takes all numbers out, and gives all memory back.
     void clear() noexcept { calls::free(&owner_.it); }
 
@@ -231,17 +237,14 @@ public:
     range_set<T> gaps(integer start, integer end) const { return overlapping(start, end).gaps(start, end); }
     std::string text() const { return set().text(); }
 
-    // Operations with a set of any kind. Those that make a set go over all ranges of both; `|=` and the like cost what `chunked_combine` of
-    // range_set.h does.
-    friend chunked_range_set operator|(const listed &a, const listed &b) { return combined(a, b, RANGE_SET_UNION); }
-    friend chunked_range_set operator&(const listed &a, const listed &b) { return combined(a, b, RANGE_SET_INTERSECTION); }
-    friend chunked_range_set operator-(const listed &a, const listed &b) { return combined(a, b, RANGE_SET_DIFFERENCE); }
-    friend chunked_range_set operator^(const listed &a, const listed &b) { return combined(a, b, RANGE_SET_SYMMETRIC_DIFFERENCE); }
-    friend chunked_range_set operator~(const chunked_range_set &a) { return chunked_range_set(~a.set()); }
-    chunked_range_set &operator|=(const listed &other) { return change(calls::combine, other.set, RANGE_SET_UNION); }
-    chunked_range_set &operator&=(const listed &other) { return change(calls::combine, other.set, RANGE_SET_INTERSECTION); }
-    chunked_range_set &operator-=(const listed &other) { return change(calls::combine, other.set, RANGE_SET_DIFFERENCE); }
-    chunked_range_set &operator^=(const listed &other) { return change(calls::combine, other.set, RANGE_SET_SYMMETRIC_DIFFERENCE); }
+    // The numbers that aren't members; and the members below `at`, and those from `at` on.
+    chunked_range_set negation() const { return ~*this; }
+    std::pair<chunked_range_set, chunked_range_set> split(integer at) const
+    {
+        const range_set<T> all = set();
+        const auto [below, from] = all.split(at);
+        return {chunked_range_set(below), chunked_range_set(from)};
+    }
 
     // The same set as one list.
     range_set<T> set() const
@@ -251,13 +254,13 @@ public:
         });
     }
 
-    // As of a range_set, which each of these makes.
+    // As of two lists, which are made only if there are as many ranges.
     friend bool operator==(const chunked_range_set &a, const chunked_range_set &b) { return a.size() == b.size() && a.set() == b.set(); }
     friend bool operator!=(const chunked_range_set &a, const chunked_range_set &b) { return !(a == b); }
-    friend std::ostream &operator<<(std::ostream &out, const chunked_range_set &a) { return out << a.set(); }
 
 private:
     template <class, class, class> friend class detail::questions;
+    template <class, class, class> friend class detail::changes;
 
     typename calls::set inner() const noexcept { return owner_.it; }
 
@@ -267,10 +270,8 @@ private:
         return *this;
     }
 
-    static chunked_range_set combined(const listed &a, const listed &b, unsigned keep)
-    {
-        return chunked_range_set(range_set<T>::combine(range_set_view<T>(a.set), range_set_view<T>(b.set), keep));
-    }
+    // What `chunked_combine` of range_set.h does, and at its cost.
+    chunked_range_set &combine_with(const detail::listed<T> &other, unsigned keep) { return change(calls::combine, other.set, keep); }
 
     detail::owner<calls> owner_;
 };

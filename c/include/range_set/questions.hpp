@@ -45,31 +45,37 @@ public:
     const typename calls<T>::set set;
 };
 
-// The operators, which both kinds of sets have: two of them may be of either kind.
-template <class T> struct operators {
-    friend range_set<T> operator|(const operand<T> &a, const operand<T> &b) { return combined(a, b, RANGE_SET_UNION); }
-    friend range_set<T> operator&(const operand<T> &a, const operand<T> &b) { return combined(a, b, RANGE_SET_INTERSECTION); }
-    friend range_set<T> operator-(const operand<T> &a, const operand<T> &b) { return combined(a, b, RANGE_SET_DIFFERENCE); }
-    friend range_set<T> operator^(const operand<T> &a, const operand<T> &b) { return combined(a, b, RANGE_SET_SYMMETRIC_DIFFERENCE); }
-    friend range_set<T> operator~(const operand<T> &a) { return viewed(a).negation(); }
-    friend bool operator==(const operand<T> &a, const operand<T> &b) noexcept { return calls<T>::equal(a.set, b.set); }
-    friend bool operator!=(const operand<T> &a, const operand<T> &b) noexcept { return !calls<T>::equal(a.set, b.set); }
+// The same, or a set in chunks, of which the call makes a list.
+template <class T> struct listed : operand<T> {
+    using operand<T>::operand;
+    listed(const chunked_range_set<T> &from) : operand<T>(std::optional<range_set<T>>(from.set())) {}
+};
+
+// The operators. Two lists make a range_set, and if one set at least is in chunks, so is the result.
+template <class T, class Operand = operand<T>, class Made = range_set<T>> struct operators {
+    friend Made operator|(const Operand &a, const Operand &b) { return made(a, b, RANGE_SET_UNION); }
+    friend Made operator&(const Operand &a, const Operand &b) { return made(a, b, RANGE_SET_INTERSECTION); }
+    friend Made operator-(const Operand &a, const Operand &b) { return made(a, b, RANGE_SET_DIFFERENCE); }
+    friend Made operator^(const Operand &a, const Operand &b) { return made(a, b, RANGE_SET_SYMMETRIC_DIFFERENCE); }
+    friend Made operator~(const Operand &a) { return Made(viewed(a).negation()); }
+    friend bool operator==(const Operand &a, const Operand &b) noexcept { return calls<T>::equal(a.set, b.set); }
+    friend bool operator!=(const Operand &a, const Operand &b) noexcept { return !calls<T>::equal(a.set, b.set); }
 
     // The order of `compare`, which is that of sets in Rust. No order says which set lies in another: `is_subset` does.
-    friend bool operator<(const operand<T> &a, const operand<T> &b) noexcept { return viewed(a).compare(b) < 0; }
-    friend bool operator>(const operand<T> &a, const operand<T> &b) noexcept { return viewed(a).compare(b) > 0; }
-    friend bool operator<=(const operand<T> &a, const operand<T> &b) noexcept { return viewed(a).compare(b) <= 0; }
-    friend bool operator>=(const operand<T> &a, const operand<T> &b) noexcept { return viewed(a).compare(b) >= 0; }
+    friend bool operator<(const Operand &a, const Operand &b) noexcept { return viewed(a).compare(viewed(b)) < 0; }
+    friend bool operator>(const Operand &a, const Operand &b) noexcept { return viewed(a).compare(viewed(b)) > 0; }
+    friend bool operator<=(const Operand &a, const Operand &b) noexcept { return viewed(a).compare(viewed(b)) <= 0; }
+    friend bool operator>=(const Operand &a, const Operand &b) noexcept { return viewed(a).compare(viewed(b)) >= 0; }
 #ifdef __cpp_lib_three_way_comparison
-    friend std::strong_ordering operator<=>(const operand<T> &a, const operand<T> &b) noexcept { return viewed(a).compare(b) <=> 0; }
+    friend std::strong_ordering operator<=>(const Operand &a, const Operand &b) noexcept { return viewed(a).compare(viewed(b)) <=> 0; }
 #endif
 
     // Writes what `text` returns, as one text for a width. Where memory for it is refused nothing is written.
-    friend std::ostream &operator<<(std::ostream &out, const operand<T> &a) { return out << viewed(a).text(); }
+    friend std::ostream &operator<<(std::ostream &out, const Operand &a) { return out << viewed(a).text(); }
 
 private:
-    static range_set_view<T> viewed(const operand<T> &a) noexcept { return range_set_view<T>(a.set); }
-    static range_set<T> combined(const operand<T> &a, const operand<T> &b, unsigned keep) { return range_set<T>::combine(a, b, keep); }
+    static range_set_view<T> viewed(const Operand &a) noexcept { return range_set_view<T>(a.set); }
+    static Made made(const Operand &a, const Operand &b, unsigned keep) { return Made(range_set<T>::combine(viewed(a), viewed(b), keep)); }
 };
 
 // Questions of sets of all kinds, by the calls of their kind. Each takes two searches at most, but `rank`, `select` and `covered`
@@ -118,37 +124,51 @@ protected:
     typename Calls::set asked() const noexcept { return static_cast<const Set &>(*this).inner(); }
 };
 
-// Questions of lists beside these: of sets and views.
-template <class T, class Set> class list_questions : public questions<T, Set, calls<T>> {
+// Whether a set is a list itself, of which no copy is made.
+template <class T, class Set> constexpr bool is_list = std::is_nothrow_constructible_v<listed<T>, const Set &>;
+
+// Questions that go over a list. A set in chunks, this one or another, is copied to one first.
+template <class T, class Set> class relations {
     using calls = detail::calls<T>;
     using number = typename calls::value;
-    using integer = detail::integer<T>;
-    using amount = detail::amount<T>;
 
 public:
     // Writes for each of the values whether it is a member: in ascending order at a few comparisons each. It is false, and nothing is
     // written, where a pointer is null, or `found` overlaps the values or the set.
-    bool contains_each(const T *values, std::size_t count, bool *found) const noexcept
+    bool contains_each(const T *values, std::size_t count, bool *found) const noexcept(is_list<T, Set>)
     {
-        return calls::contains_each(this->asked(), reinterpret_cast<const number *>(values), count, found) == RANGE_SET_DONE;
+        return calls::contains_each(list().set, reinterpret_cast<const number *>(values), count, found) == RANGE_SET_DONE;
     }
 
-    bool is_disjoint(const operand<T> &other) const noexcept { return calls::is_disjoint(this->asked(), other.set); }
-    bool intersects(const operand<T> &other) const noexcept { return !is_disjoint(other); }
-    bool is_subset(const operand<T> &other) const noexcept { return calls::is_subset(this->asked(), other.set); }
-    bool is_superset(const operand<T> &other) const noexcept { return calls::is_subset(other.set, this->asked()); }
+    bool is_disjoint(const listed<T> &other) const noexcept(is_list<T, Set>) { return calls::is_disjoint(list().set, other.set); }
+    bool intersects(const listed<T> &other) const noexcept(is_list<T, Set>) { return !is_disjoint(other); }
+    bool is_subset(const listed<T> &other) const noexcept(is_list<T, Set>) { return calls::is_subset(list().set, other.set); }
+    bool is_superset(const listed<T> &other) const noexcept(is_list<T, Set>) { return calls::is_subset(other.set, list().set); }
 
     // Below 0 where this set comes first, above 0 where the other does, and 0 where they are equal. The first boundaries
     // that differ decide, and where there are none, the fewer boundaries. Compares at most the boundaries of the shorter set.
-    int compare(const operand<T> &other) const noexcept
+    int compare(const listed<T> &other) const noexcept(is_list<T, Set>)
     {
-        const auto set = this->asked(), with = other.set;
+        const listed<T> list = this->list();
+        const auto set = list.set, with = other.set;
         const number *const end = set.boundaries + set.len, *const other_end = with.boundaries + with.len;
         const auto [it, that] = std::mismatch(set.boundaries, end, with.boundaries, other_end);
         if (it == end || that == other_end) return static_cast<int>(it != end) - static_cast<int>(that != other_end);
         return *it < *that ? -1 : 1;
     }
 
+private:
+    listed<T> list() const noexcept(is_list<T, Set>) { return static_cast<const Set &>(*this); }
+};
+
+// Questions of lists beside these: of sets and views.
+template <class T, class Set> class list_questions : public questions<T, Set, calls<T>>, public relations<T, Set> {
+    using calls = detail::calls<T>;
+    using number = typename calls::value;
+    using integer = detail::integer<T>;
+    using amount = detail::amount<T>;
+
+public:
     // The numbers from `start` to below `end` that are no members, those that are, and all that are none. The first two pass over
     // the rest of the set by a search, as `week - busy` and `week & busy` do of a week.
     range_set<T> gaps(integer start, integer end) const

@@ -40,10 +40,59 @@ constexpr bool is_multipass<Iterator, std::void_t<typename std::iterator_traits<
 template <class T, class Iterator>
 using if_ranges = std::enable_if_t<std::is_convertible_v<const item_of<Iterator> &, ends<T>> && is_multipass<Iterator>>;
 
+// Changes of sets that own their ranges, by the calls of their kind.
+template <class T, class Set, class Calls> class changes {
+    using integer = detail::integer<T>;
+
+public:
+    // Puts the numbers from `start` to below `end` in, takes them out.
+    Set &insert(integer start, integer end) { return self().change(Calls::insert, start, end); }
+    Set &remove(integer start, integer end) { return self().change(Calls::remove, start, end); }
+    // The same of a range, which may have no end.
+    Set &insert(const range<T> &it) { return it.has_end ? insert(it.start, it.end) : self().insert_from(it.start); }
+    Set &remove(const range<T> &it) { return it.has_end ? remove(it.start, it.end) : self().remove_from(it.start); }
+
+    // The same, and whether the set has other members now.
+    bool insert_changed(integer start, integer end) { return has_changed(Calls::insert_changed, start, end); }
+    bool remove_changed(integer start, integer end) { return has_changed(Calls::remove_changed, start, end); }
+    bool insert_changed(const range<T> &it)
+    {
+        if (it.has_end) return insert_changed(it.start, it.end);
+        const bool has_gaps = self().next_gap(it.start).has_value();
+        insert(it);
+        return has_gaps;
+    }
+    bool remove_changed(const range<T> &it)
+    {
+        if (it.has_end) return remove_changed(it.start, it.end);
+        const bool has_members = self().next_member(it.start).has_value();
+        remove(it);
+        return has_members;
+    }
+
+    // Operations with a set of any kind, or its ranges in braces.
+    Set &operator|=(const listed<T> &other) { return self().combine_with(other, RANGE_SET_UNION); }
+    Set &operator&=(const listed<T> &other) { return self().combine_with(other, RANGE_SET_INTERSECTION); }
+    Set &operator-=(const listed<T> &other) { return self().combine_with(other, RANGE_SET_DIFFERENCE); }
+    Set &operator^=(const listed<T> &other) { return self().combine_with(other, RANGE_SET_SYMMETRIC_DIFFERENCE); }
+
+private:
+    Set &self() noexcept { return static_cast<Set &>(*this); }
+    template <class Call> bool has_changed(Call call, integer start, integer end)
+    {
+        bool changed = false;
+        self().change(call, start, end, &changed);
+        return changed;
+    }
+};
+
 } // namespace detail
 
 // A set that owns its boundaries.
-template <class T> class range_set : detail::operators<T>, public detail::list_questions<T, range_set<T>> {
+template <class T>
+class range_set : detail::operators<T>,
+                  public detail::list_questions<T, range_set<T>>,
+                  public detail::changes<T, range_set<T>, detail::calls<T>> {
     using calls = detail::calls<T>;
     using number = typename calls::value;
     using element = detail::element<T>;
@@ -91,13 +140,7 @@ public:
     explicit range_set(range_set_view<T> view) : range_set(combine(view, range_set_view<T>(), RANGE_SET_UNION)) {}
     range_set(const range_set &other) : range_set(other.view()) {}
     range_set(range_set &&other) noexcept { swap(other); }
-    range_set &operator=(const range_set &other)
-    {
-        range_set copy(other);
-        swap(copy);
-        return *this;
-    }
-    range_set &operator=(range_set &&other) noexcept
+    range_set &operator=(range_set other) noexcept
     {
         swap(other);
         return *this;
@@ -156,7 +199,7 @@ public:
         });
     }
     // The numbers that `keep` names of two sets, as RANGE_SET_LEFT | RANGE_SET_BOTH.
-    static range_set combine(const detail::operand<T> &a, const detail::operand<T> &b, unsigned keep)
+    static range_set combine(const detail::listed<T> &a, const detail::listed<T> &b, unsigned keep)
     {
         return written(a.set.len + b.set.len + (keep & RANGE_SET_NEITHER ? 1 : 0),
                        [&](number *out, std::size_t room, auto *set) { return calls::combine(a.set, b.set, keep, out, room, set); });
@@ -183,15 +226,9 @@ public:
     std::pair<range_set_view<T>, range_set_view<T>> split(integer at) const & noexcept { return view().split(at); }
     std::pair<range_set_view<T>, range_set_view<T>> split(integer at) const && = delete;
 
-    // Puts the numbers from `start` to below `end` in, takes them out, where the set lies.
-    range_set &insert(integer start, integer end) { return change(calls::insert, start, end); }
-    range_set &remove(integer start, integer end) { return change(calls::remove, start, end); }
-    // The same of all numbers from `start` on.
+    // Puts all numbers from `start` on in, takes them out.
     range_set &insert_from(integer start) { return *this |= *range_set_view<T>::of(&start.value, 1); }
     range_set &remove_from(integer start) { return *this -= *range_set_view<T>::of(&start.value, 1); }
-    // The same of a range, which may have no end.
-    range_set &insert(const range<T> &it) { return it.has_end ? insert(it.start, it.end) : insert_from(it.start); }
-    range_set &remove(const range<T> &it) { return it.has_end ? remove(it.start, it.end) : remove_from(it.start); }
     // Takes all numbers out, and keeps the room for them.
     void clear() noexcept { in_.set.len = 0; }
 
@@ -212,15 +249,10 @@ public:
         if (less != nullptr || in_.set.len == 0) move_to(std::move(less), in_.set.len);
     }
 
-    // They keep the set's room, and work there if it is enough for the set and the longest result. What lies in the set is copied first.
-    range_set &operator|=(const detail::operand<T> &other) { return combine_with(other, RANGE_SET_UNION); }
-    range_set &operator&=(const detail::operand<T> &other) { return combine_with(other, RANGE_SET_INTERSECTION); }
-    range_set &operator-=(const detail::operand<T> &other) { return combine_with(other, RANGE_SET_DIFFERENCE); }
-    range_set &operator^=(const detail::operand<T> &other) { return combine_with(other, RANGE_SET_SYMMETRIC_DIFFERENCE); }
-
 private:
     template <class, class, class> friend class detail::questions;
     template <class, class> friend class detail::list_questions;
+    template <class, class, class> friend class detail::changes;
     friend class chunked_range_set<T>;
 
     typename calls::set inner() const noexcept { return in_.set; }
@@ -273,8 +305,10 @@ private:
         adopt(std::move(more), room, in_.set.len);
     }
 
-    // Where the result stands in a new buffer, its boundaries are taken, or the buffer if there is no room for them.
-    range_set &combine_with(const detail::operand<T> &other, unsigned keep)
+    // It keeps the set's room, and works there if that is enough for the set and the longest
+    // result. What lies in the set is copied first. Where the result stands in a new buffer, its
+    // boundaries are taken, or the buffer if there is no room for them.
+    range_set &combine_with(const detail::listed<T> &other, unsigned keep)
     {
         const bool fits = 2 * in_.set.len + other.set.len <= in_.room;
         if (fits && calls::combine_with(&in_, other.set, keep) == RANGE_SET_DONE) return *this;
@@ -285,12 +319,12 @@ private:
         return *this;
     }
 
-    template <class Call> range_set &change(Call call, number start, number end)
+    template <class Call, class... More> range_set &change(Call call, number start, number end, More... more)
     {
-        if (call(&in_, start, end) != RANGE_SET_NO_ROOM) return *this;
+        if (call(&in_, start, end, more...) != RANGE_SET_NO_ROOM) return *this;
         const std::size_t room = std::max(least_room, 2 * in_.needed);
         move_to(room_for(room), room);
-        static_cast<void>(call(&in_, start, end));
+        static_cast<void>(call(&in_, start, end, more...));
         return *this;
     }
 
