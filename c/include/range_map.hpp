@@ -54,6 +54,11 @@ RANGE_MAP_CALLS(i64, std::int64_t)
 RANGE_MAP_CALLS(u64, std::uint64_t)
 #undef RANGE_MAP_CALLS
 
+// For an iterator over ranges with their values.
+template <class T, class V, class Iterator>
+using if_entries = std::enable_if_t<std::is_convertible_v<decltype(std::declval<const item_of<Iterator> &>().first), ends<T>>
+                                    && std::is_convertible_v<decltype(std::declval<const item_of<Iterator> &>().second), const V &>>;
+
 } // namespace detail
 
 template <class T, class V> class range_map {
@@ -61,8 +66,9 @@ template <class T, class V> class range_map {
     using number = typename element::number;
     using key = std::conditional_t<std::is_signed_v<number>, std::int64_t, std::uint64_t>;
     using calls = detail::map_calls<key>;
-    using values = detail::values<V>;
+    using numbers = detail::values<V>;
     using integer = detail::integer<T>;
+    using amount = detail::amount<T>;
 
 public:
     using value_type = std::pair<range<T>, V>;
@@ -81,7 +87,7 @@ public:
         using iterator_category = std::input_iterator_tag;
         using value_type = range_map::value_type;
         using difference_type = std::ptrdiff_t;
-        using reference = std::pair<range<T>, decltype(std::declval<const values &>().value_of(0))>;
+        using reference = std::pair<range<T>, decltype(std::declval<const numbers &>().value_of(0))>;
         using pointer = detail::arrow<reference>;
 
         iterator() noexcept = default;
@@ -130,6 +136,20 @@ public:
     {
         for (const entry &it : entries) insert(it.start, it.end, it.value);
     }
+    // The same of pairs of a range and a value: those of a std::vector, of another map, or between
+    // two iterators.
+    template <class Items, class = std::enable_if_t<!std::is_same_v<std::decay_t<Items>, range_map>>,
+              class = detail::if_entries<T, V, detail::iterator_over<Items>>>
+    explicit range_map(Items &&items) : range_map(std::begin(items), std::end(items))
+    {
+    }
+    template <class Iterator, class End, class = detail::if_entries<T, V, Iterator>> range_map(Iterator first, End last)
+    {
+        for (; first != last; ++first) {
+            const auto &[at, value] = *first;
+            insert(detail::ends<T>(at), value);
+        }
+    }
     range_map(const range_map &other)
     {
         if constexpr (detail::is_plain<V>) {
@@ -148,6 +168,15 @@ public:
         return *this;
     }
     ~range_map() = default;
+
+    // The map that gives each key the number of those of some ranges that have it, if some do. It
+    // makes about n log n changes of n ranges.
+    template <class Ranges, class = detail::if_ranges<T, detail::iterator_over<const Ranges>>> static range_map depth(const Ranges &ranges)
+    {
+        return depth_of(std::begin(ranges), std::distance(std::begin(ranges), std::end(ranges)));
+    }
+    static range_map depth(std::initializer_list<detail::ends<T>> ranges) { return depth<std::initializer_list<detail::ends<T>>>(ranges); }
+
     void swap(range_map &other) noexcept
     {
         std::swap(owner_, other.owner_);
@@ -164,6 +193,65 @@ public:
     range_map &insert(const range<T> &it, const V &value) { return put(keys_of(it), value); }
     range_map &remove(const range<T> &it) { return change(calls::remove, calls::remove_from, keys_of(it)); }
     void clear() noexcept { range_map().swap(*this); }
+
+    // These change several ranges, or none if memory is refused or a function throws. So they make
+    // more than one change in a copy of the map, which takes its place.
+    //
+    // Gives each key of a range what `how` makes of its value, as `combine` does: of null if it has
+    // none.
+    //
+    //     range_map<int, int> depth = {{0, 5, 1}};
+    //     depth.update(3, 9, [](const int *it) { return std::optional(it ? *it + 1 : 1); });
+    //                                                      // 0..3 1, 3..5 2, 5..9 1
+    //
+    template <class How> range_map &update(const range<T> &at, How how)
+    {
+        const auto made = range_map<T, bool>().insert(at, true).combine(part(at), [&](const bool *, const V *value) { return how(value); });
+        changes all(made.begin(), made.end());
+        for (const auto &it : range_set<T>{at} - made.domain()) all.emplace_back(it, std::nullopt);
+        return change_all(all);
+    }
+    template <class How> range_map &update(integer start, integer end, How how) { return update(range<T>{start, end}, how); }
+    // Has `how` change the value of a key in place, and so that of the longest range around it.
+    // Returns false if the key has none.
+    template <class How> bool modify(integer at, How how)
+    {
+        auto it = range_at(at);
+        if (!it) return false;
+        how(it->second);
+        insert(it->first, it->second);
+        return true;
+    }
+    // Puts in the ranges of another map with their values, in place of those that were there, or
+    // only where there was none.
+    range_map &insert_all(const range_map &other) { return change_all(changes(other.begin(), other.end())); }
+    range_map &insert_where_free(const range_map &other)
+    {
+        changes all;
+        for (const auto &[at, value] : other)
+            for (const auto &it : range_set<T>{at} - taken(at)) all.emplace_back(it, value);
+        return change_all(all);
+    }
+    // Takes away the values of the keys in a set, such as another map's `domain`, or of all others.
+    range_map &remove_all(const detail::listed<T> &set)
+    {
+        changes all;
+        for (const auto &it : range_set_view<T>(set.set)) all.emplace_back(it, std::nullopt);
+        return change_all(all);
+    }
+    range_map &retain_all(const detail::listed<T> &set) { return remove_all(range_set_view<T>(set.set).negation()); }
+    // Takes away each value that `keep` returns false for. It is called once for each range.
+    template <class Keep> range_map &retain(Keep keep)
+    {
+        return retain_ranges([&](const range<T> &, const V &value) { return keep(value); });
+    }
+    template <class Keep> range_map &retain_ranges(Keep keep)
+    {
+        changes all;
+        for (const auto &[at, value] : *this)
+            if (!keep(at, value)) all.emplace_back(at, std::nullopt);
+        return change_all(all);
+    }
 
     bool contains(integer at) const noexcept { return around(at).has_value; }
     // The value of a key, or nothing.
@@ -185,28 +273,56 @@ public:
         if (!low.has_value) return std::nullopt;
         return range_of(low, highest());
     }
-    // The ranges that have a key from `start` to below `end`, whole, each with its value.
-    std::vector<value_type> overlapping(integer start, integer end) const
+    // The ranges that have a key from `start` to below `end`, whole, each with its value; and the
+    // map of the values there alone.
+    std::vector<value_type> overlapping(integer start, integer end) const { return overlapping(range<T>{start, end}); }
+    range_map part(integer start, integer end) const { return part(range<T>{start, end}); }
+    // The same of a range, which may have no end.
+    std::vector<value_type> overlapping(const range<T> &at) const
     {
         std::vector<value_type> found;
-        each_within(start, end, [&](const stretch &it) { found.emplace_back(shown(it)); });
+        each_within(at, [&](const stretch &it) { found.emplace_back(shown(it)); });
+        return found;
+    }
+    range_map part(const range<T> &at) const
+    {
+        range_map made(overlapping(at));
+        made.remove(range<T>{all_keys().start, at.start});
+        if (at.has_end) made.remove_from(at.end);
+        return made;
+    }
+    // The ranges that have a value, and their values, in order.
+    std::vector<range<T>> keys() const
+    {
+        std::vector<range<T>> found;
+        for (const auto &it : *this) found.push_back(it.first);
+        return found;
+    }
+    std::vector<V> values() const
+    {
+        std::vector<V> found;
+        for (const auto &it : *this) found.push_back(it.second);
         return found;
     }
 
-    // The keys that have a value, that have this one, and those from `start` to below `end` that have none.
-    range_set<T> domain() const
+    // The keys that have a value, that have this one, and those from `start` to below `end` that
+    // have none.
+    range_set<T> domain() const { return taken(all_keys()); }
+    range_set<T> where_equal(const V &value) const { return keys_where(all_keys(), values_.is(value)); }
+    range_set<T> gaps(integer start, integer end) const { return taken({start, end}).gaps(start, end); }
+    // Whether all keys from `start` to below `end` have a value, whether one has.
+    bool contains_range(integer start, integer end) const { return taken({start, end}).contains_range(start, end); }
+    bool intersects_range(integer start, integer end) const noexcept
     {
-        return keys_where([](std::uint64_t) { return true; });
+        const auto it = from(key_of(start));
+        return start.value < end.value && it.has_value && it.start < key_of(end);
     }
-    range_set<T> where_equal(const V &value) const
+    // The least key from which on `count` keys lie in `start` to below `end` and none has a value,
+    // or nothing; and the same where it is a multiple of `align`. They go over the ranges there.
+    std::optional<T> first_fit(integer start, integer end, amount count) const { return taken({start, end}).first_fit(start, end, count); }
+    std::optional<T> first_fit_aligned(integer start, integer end, amount count, amount align) const
     {
-        return keys_where(values_.is(value));
-    }
-    range_set<T> gaps(integer start, integer end) const
-    {
-        std::vector<range<T>> taken;
-        each_within(start, end, [&](const stretch &it) { taken.push_back(range_of(it, it)); });
-        return range_set<T>{{start, end}} - range_set<T>(taken);
+        return taken({start, end}).first_fit_aligned(start, end, count, align);
     }
 
     // The map of what `how` makes of the values that a key has in this map and in another, whose values may be of another type. It is
@@ -258,14 +374,14 @@ public:
 private:
     template <class, class> friend class range_map;
     using stretch = typename calls::stretch;
-    using keys = range<key>;
+    using bounds = range<key>;
     static constexpr key least = std::numeric_limits<key>::min(), most = std::numeric_limits<key>::max();
 
     typename calls::owned map() const noexcept { return owner_.it; }
 
     static key key_of(integer at) noexcept { return element::in(at.value); }
-    static keys keys_of(const range<T> &it) noexcept { return {element::in(it.start), element::in(it.end), it.has_end}; }
-    static bool is_empty(const keys &at) noexcept { return at.has_end && at.start >= at.end; }
+    static bounds keys_of(const range<T> &it) noexcept { return {element::in(it.start), element::in(it.end), it.has_end}; }
+    static bool is_empty(const bounds &at) noexcept { return at.has_end && at.start >= at.end; }
     // The range from the start of one to the end of another.
     static range<T> range_of(const stretch &first, const stretch &last) noexcept
     {
@@ -304,29 +420,60 @@ private:
         return call(&value);
     }
 
-    // Calls for each range with a value that has a key from `first` to `last`, or from `start` to below `end`.
+    // Calls for each range with a value that has a key from `first` to `last`, or in a range.
     template <class Call> void each_over(key first, key last, Call call) const
     {
         for (iterator it(this, first, iterator::few); it.is_there() && it.now().start <= last; ++it) call(it.now());
     }
-    template <class Call> void each_within(integer start, integer end, Call call) const
+    template <class Call> void each_within(const range<T> &it, Call call) const
     {
-        if (start.value < end.value) each_over(key_of(start), key_of(end) - 1, call);
+        const bounds at = keys_of(it);
+        if (!is_empty(at)) each_over(at.start, at.has_end ? at.end - 1 : most, call);
     }
-    template <class Wanted> range_set<T> keys_where(Wanted wanted) const
+    // The ranges, whole, that have a key in another and a value that is wanted, or any.
+    template <class Wanted> range_set<T> keys_where(const range<T> &at, Wanted wanted) const
     {
         std::vector<range<T>> found;
-        each_over(least, most, [&](const stretch &it) {
+        each_within(at, [&](const stretch &it) {
             if (wanted(it.value)) found.push_back(range_of(it, it));
         });
         return range_set<T>(found);
     }
+    range_set<T> taken(const range<T> &at) const
+    {
+        return keys_where(at, [](std::uint64_t) { return true; });
+    }
+    static range<T> all_keys() noexcept { return {element::out(std::numeric_limits<number>::min()), T(), false}; }
+
+    // The depth of `count` ranges, which is the sum of those of both halves.
+    template <class Iterator> static range_map depth_of(Iterator first, std::ptrdiff_t count)
+    {
+        range_map one;
+        if (count == 1) one.insert(detail::ends<T>(*first), V(1));
+        if (count < 2) return one;
+        const auto half = count / 2;
+        return depth_of(first, half).combine(depth_of(std::next(first, half), count - half), [](const V *a, const V *b) {
+            return std::optional<V>(static_cast<V>((a != nullptr ? *a : V()) + (b != nullptr ? *b : V())));
+        });
+    }
+
+    // Ranges that get a value, or none.
+    using changes = std::vector<std::pair<range<T>, std::optional<V>>>;
+    range_map &change_all(const changes &all)
+    {
+        std::optional<range_map> copy;
+        if (all.size() > 1) copy = *this;
+        range_map &map = copy ? *copy : *this;
+        for (const auto &[at, value] : all) value ? map.insert(at, *value) : map.remove(at);
+        if (copy) swap(*copy);
+        return *this;
+    }
 
     // Gives keys a value. It is held until that is done, since these keys may be the last that had it.
-    range_map &put(keys at, const V &value)
+    range_map &put(bounds at, const V &value)
     {
         struct holder {
-            values &all;
+            numbers &all;
             const std::uint64_t which;
             ~holder() { all.let_go(which); }
         } const holder = {values_, values_.hold(value)};
@@ -345,7 +492,7 @@ private:
     }
     // Changes keys, and counts how many ranges hold each value: the new one, and those there before that have an end cut off, are joined
     // with it, are gone, or become two.
-    template <class Call, class Open, class... Value> range_map &change(Call call, Open open, const keys &at, Value... value)
+    template <class Call, class Open, class... Value> range_map &change(Call call, Open open, const bounds &at, Value... value)
     {
         if (is_empty(at)) return *this;
         std::vector<std::uint64_t> fewer;
@@ -370,7 +517,7 @@ private:
     }
 
     detail::owner<calls> owner_;
-    values values_;
+    numbers values_;
 };
 
 } // namespace range_sets

@@ -12,6 +12,8 @@
 #include <set>
 #include <string>
 
+using range_sets::chunked_range_set;
+using range_sets::from;
 using range_sets::range;
 using range_sets::range_map;
 using range_sets::range_set;
@@ -141,6 +143,68 @@ template <class T, class V> static void combined()
     check(low.combine(map({{3, 5, c}}), right) == map(low).insert(3, 5, c), "ends within all keys");
 }
 
+// Changes of several ranges, each beside what is left.
+template <class T, class V> static void changed()
+{
+    using map = range_map<T, V>;
+    const V a = value<V>(0), b = value<V>(1), c = value<V>(2);
+    const map some = {{9, 12, a}, {14, 17, b}}, more = {{11, 15, c}, {17, 20, b}}, open = map({{9, 10, a}}).insert_from(16, b);
+    map same(some);
+    check(map(some).insert_all(more) == map({{9, 11, a}, {11, 15, c}, {15, 20, b}}), "insert_all");
+    check(map(some).insert_all({{10, 15, b}}) == map({{9, 10, a}, {10, 17, b}}) && map(some).insert_all({}) == some, "one, none");
+    check(map(some).insert_all(open).remove_from(20) == map({{9, 12, a}, {14, 20, b}}), "insert_all, open");
+    check(map(some).insert_where_free(more) == map({{9, 12, a}, {12, 14, c}, {14, 20, b}}), "insert_where_free");
+    check(map(more).insert_where_free(open) == map({{9, 10, a}, {11, 15, c}}).insert_from(16, b), "insert_where_free, open");
+    check(same.insert_all(same) == some && same.insert_where_free(same) == some, "a map into itself");
+    check(map(some).remove_all({{10, 11}, from(16)}) == map({{9, 10, a}, {11, 12, a}, {14, 16, b}}), "remove_all");
+    check(map(some).remove_all(chunked_range_set<T>{{0, 15}}) == map({{15, 17, b}}) && map(some).remove_all({}) == some, "chunks, none");
+    check(map(some).retain_all({{10, 11}, from(16)}) == map({{10, 11, a}, {16, 17, b}}), "retain_all");
+    check(map(some).retain_all(more.domain()) == map({{11, 12, a}, {14, 15, b}}) && map(some).retain_all({}).empty(), "keys, none");
+    check(map(some).retain([&](const V &it) { return it == a; }) == map({{9, 12, a}}), "retain");
+    check(map(some).retain_ranges([](const auto &at, const auto &) { return at.start > 9; }) == map({{14, 17, b}}), "retain_ranges");
+    const auto turned = [&](const V *it) { return it == nullptr ? std::optional(c) : *it == a ? std::optional(b) : std::nullopt; };
+    check(map(some).update(11, 15, turned) == map({{9, 11, a}, {11, 12, b}, {12, 14, c}, {15, 17, b}}), "update");
+    check(map(some).update(10, 11, turned) == map({{9, 10, a}, {10, 11, b}, {11, 12, a}, {14, 17, b}}), "update of one range");
+    check(map(some).update(14, 16, turned) == map({{9, 12, a}, {16, 17, b}}) && map(some).update(11, 11, turned) == some, "away, no key");
+    check(map(some).update(from(15), turned) == map({{9, 12, a}, {14, 15, b}}).insert_from(17, c), "update, open");
+    const auto to_b = [&](V &it) { it = b; };
+    check(same.modify(10, to_b) && same == map({{9, 12, b}, {14, 17, b}}) && !same.modify(12, to_b) && same.size() == 2, "modify");
+    check(some.part(11, 15) == map({{11, 12, a}, {14, 15, b}}) && some.part(15, 11).empty(), "part");
+    check(some.part(from(10)) == map({{10, 12, a}, {14, 17, b}}) && open.part(from(17)) == map().insert_from(17, b), "part, open");
+}
+
+// What maps are made of, and what they answer of parts, as their domain does.
+template <class T, class V> static void asked()
+{
+    using map = range_map<T, V>;
+    using item = typename map::value_type;
+    const V a = value<V>(0), b = value<V>(1);
+    const map some = {{9, 12, a}, {12, 14, b}, {16, 17, a}};
+    const std::vector<item> items(some.begin(), some.end());
+    const std::vector<std::pair<std::pair<int, short>, V>> pairs = {{{9, 17}, a}, {{12, 16}, b}, {{14, 16}, b}};
+    static_assert(!std::is_constructible_v<map, std::vector<std::pair<std::pair<double, double>, V>>>, "of ranges that would be cut");
+    check(map(items) == some && map(items.begin() + 1, items.end()) == some.part(12, 17), "a map of a vector");
+    check(map(some.begin(), some.end()) == some && range_map<T, std::optional<V>>(some).size() == 3, "of another map");
+    check(map(pairs).remove(14, 16) == some && map(std::vector<item>()).empty(), "of pairs");
+    check(some.keys() == std::vector<range<T>>{{9, 12}, {12, 14}, {16, 17}} && some.values() == std::vector<V>{a, b, a}, "keys, values");
+    check(map().keys().empty() && map().values().empty(), "no keys, no values");
+    const range_set<T> keys = some.domain();
+    for (T start = 8; start < 19; start++)
+        for (T end = 8; end < 19; end++) {
+            check(some.contains_range(start, end) == keys.contains_range(start, end), "contains_range");
+            check(some.intersects_range(start, end) == keys.intersects_range(start, end), "intersects_range");
+            for (unsigned count = 0; count < 4; count++) {
+                check(some.first_fit(start, end, count) == keys.first_fit(start, end, count), "first_fit");
+                check(some.first_fit_aligned(start, end, 1, count) == keys.first_fit_aligned(start, end, 1, count), "first_fit_aligned");
+            }
+        }
+    using depth = range_map<T, unsigned char>;
+    const std::vector<std::pair<T, T>> ranges = {{0, 5}, {3, 9}, {7, 7}, {4, 6}};
+    check(depth::depth(ranges) == depth({{0, 3, 1}, {3, 4, 2}, {4, 5, 3}, {5, 6, 2}, {6, 9, 1}}), "depth");
+    check(depth::depth({{5, 7}, from(6)}) == depth({{5, 6, 1}, {6, 7, 2}}).insert_from(7, 1) && depth::depth({}).empty(), "depth, open");
+    check(depth::depth(keys) == depth({{9, 14, 1}, {16, 17, 1}}), "depth of a set");
+}
+
 template <class T, class V> static void made_up()
 {
     constexpr unsigned keys = 40;
@@ -171,6 +235,17 @@ template <class T, class V> static void made_up()
                 const auto which_at = [at](const std::vector<std::optional<V>> &of) { return which_of(of[at] ? &*of[at] : nullptr); };
                 const unsigned one = which_at(wanted_before), other = which_at(wanted);
                 check(both.get(at) == (one != other ? std::optional(4 * one + other) : std::nullopt), "made up: combine");
+            }
+            const unsigned from = random_below(keys), below = random_below(keys);
+            const auto put = range_map<T, V>(before).insert_all(map), free = range_map<T, V>(before).insert_where_free(map);
+            const auto kept = range_map<T, V>(before).retain_all(map.domain()), rest = range_map<T, V>(before).remove_all(map.domain());
+            const auto next = [](const V *it) { return which_of(it) < 2 ? std::optional(value<V>(which_of(it) + 1)) : std::nullopt; };
+            const auto updated = range_map<T, V>(before).update(from, below, next);
+            for (unsigned at = 0; at < keys; at++) {
+                const std::optional<V> &one = wanted_before[at], &other = wanted[at], none;
+                check(put.get(at) == (other ? other : one) && free.get(at) == (one ? one : other), "made up: insert_all");
+                check(kept.get(at) == (other ? one : none) && rest.get(at) == (other ? none : one), "made up: retain_all and remove_all");
+                check(updated.get(at) == (from <= at && at < below ? next(one ? &*one : nullptr) : one), "made up: update");
             }
             const auto first = map.domain().first(), last = map.domain().last();
             check(first.has_value() == map.first().has_value() && last.has_value() == map.last().has_value(), "made up: first and last");
@@ -328,6 +403,8 @@ template <class T, class V> static void both()
 {
     rows<T, V>();
     combined<T, V>();
+    changed<T, V>();
+    asked<T, V>();
     made_up<T, V>();
 }
 

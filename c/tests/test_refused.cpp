@@ -95,6 +95,12 @@ template <class T> static void all()
     until_done(nothing, "a copy", [&](set &it) { it = many; });
     until_done(nothing, "a set of a list", [&](set &it) { it = set(list); });
     until_done(nothing, "|= of another", [&](set &it) { it |= many; });
+    until_done(many, "insert_changed into a full chunk", [](set &it) { it.insert_changed(7, 8); });
+    until_done(many, "remove_changed", [](set &it) { it.remove_changed(2, 3); });
+    until_done(nothing, "a text", [](set &it) { it = *set::parse("1..3"); });
+    until_done(many, "a half", [](set &it) { it = it.split(1000).second; });
+    range_set<T> few = {{1, 3}};
+    until_done(few, "|= of a set in chunks", [&](range_set<T> &it) { it |= many; });
 
     using map = range_map<T, int>;
     map none, full;
@@ -115,6 +121,15 @@ template <class T> static void all()
     for (T i = 0; i < 40; i++) other.insert(static_cast<T>(7 * i + 2), static_cast<T>(7 * i + 6), -static_cast<int>(i));
     const auto either = [](const int *a, const int *b) { return std::optional(a != nullptr ? *a : *b); };
     until_done(full, "a map of two", [&](map &it) { it = it.combine(other, either); });
+    const auto one_more = [](const int *a) { return a != nullptr ? std::optional(*a + 1) : std::optional(0); };
+    until_done(other, "insert_all", [&](map &it) { it.insert_all(none); });
+    until_done(other, "insert_where_free", [&](map &it) { it.insert_where_free(none); });
+    until_done(other, "remove_all", [&](map &it) { it.remove_all({{3, 4}, {100, 120}}); });
+    until_done(other, "retain_all", [&](map &it) { it.retain_all(many); });
+    until_done(other, "retain", [](map &it) { it.retain([](int which) { return which % 2 == 0; }); });
+    until_done(other, "update", [&](map &it) { it.update(3, 50, one_more); });
+    until_done(other, "a part", [](map &it) { it = it.part(3, 50); });
+    until_done(none, "a depth", [](map &it) { it = map::depth({{1, 5}, {2, 7}, {3, 4}}); });
     until_done(full, "a map of itself and none",
         [&](map &it) { it = it.combine(map(), [](const int *a, const int *) { return std::optional(*a + 1); }); });
 }
@@ -167,6 +182,12 @@ static void copies_that_throw()
         until_done(few, "values of two maps, as they are", [&](map &it) {
             it = it.combine(many, [](const fragile *a, const fragile *b) { return std::optional<fragile>(b != nullptr ? *b : *a); });
         });
+        until_done(few, "values of another map", [&](map &it) { it.insert_all(many); });
+        until_done(few, "values where there are none", [&](map &it) { it.insert_where_free(many); });
+        until_done(many, "values that go", [](map &it) { it.retain([](const fragile &which) { return fragile(which).which < 5; }); });
+        until_done(many, "values of keys that go", [](map &it) { it.remove_all({{1, 2}, {20, 70}}); });
+        until_done(few, "values that change", [&](map &it) { it.update(3, 50, [&](const fragile *a) { return sum(a, a); }); });
+        until_done(few, "a value that changes", [](map &it) { it.modify(12, [](fragile &which) { which = fragile(77); }); });
         for (const auto &call : {&map::first, &map::last}) {
             long met = 0;
             for (bool thrown = true; thrown; met++) {
