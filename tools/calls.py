@@ -142,16 +142,16 @@ def of_cpp():
     text = "".join(it.read_text(encoding="utf-8") for it in (ROOT / "c/include").rglob("*.hpp"))
 
     def calls(name):
-        found = re.search(rf"^template <class T(?:, class \w+)*> (?:class|struct) {name}\b([^;{{]*)\{{(.*?)^\}};", text, re.M | re.S)
+        found = re.search(rf"^template <class T[^;{{]*>\s(?:class|struct) {name}\b([^;{{]*)\{{(.*?)^\}};", text, re.M | re.S)
         if not found:
             return
         for base in re.findall(r"public (?:detail::)?(\w+)", found[1]):
             yield from calls(base)
         public = re.sub(r"^(?:private|protected):.*?(?=^public:|\Z)", "", found[2].partition("\npublic:")[2] or found[2], flags=re.M | re.S)
-        yield from re.findall(r"^    (?!return |friend |static_assert)(?:[\w:][\w:<>,&* \[\]]*[ &*])?([a-z]\w*)\(", public, re.M)
+        yield from re.findall(r"^    (?!return |friend |static_assert)(?:[\w:][\w:.<>,&* \[\]]*[ &*])?([a-z]\w*)\(", public, re.M)
         yield from re.findall(r"operator([|&^-]=?|~|==)\(", public)
 
-    yield from (("s", it) for it in calls("operators"))
+    yield from ((kind, it) for kind in "sc" for it in calls("operators"))
     yield from ((kind, it) for name, kind in CPP.items() for it in calls(name))
 
 
