@@ -4,13 +4,12 @@ mod changes;
 mod combining;
 mod iter;
 mod members;
-mod relations;
 mod taking;
 mod traits;
 
 pub use iter::{Gaps, IntoIter, Iter, RangesWithin};
+pub use crate::relations::AnySet;
 pub use members::Members;
-pub use relations::AnySet;
 
 use crate::any_range::Ended;
 use crate::chunks;

@@ -61,6 +61,7 @@ mod operation;
 pub mod pairs;
 mod range;
 pub mod range_set;
+mod relations;
 mod space;
 #[allow(dead_code, unsafe_code)]
 mod support;

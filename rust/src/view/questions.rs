@@ -5,6 +5,7 @@ use crate::generated::range_merge::NoRoom;
 use crate::iter::Members;
 use crate::operation::Connective;
 use crate::range::RangeSetRange;
+use crate::relations::check_merge;
 use crate::view::RangeSetRef;
 
 impl<T> RangeSetRef<T> {
@@ -24,70 +25,6 @@ impl<T> RangeSetRef<T> {
 }
 
 impl<T: Ord> RangeSetRef<T> {
-    /// Returns `true` if the sets have a member in common.
-    ///
-    /// # Examples
-    ///
-    /// ```
-    /// use range_sets::RangeSetRef;
-    ///
-    /// let day = RangeSetRef::new(&[9, 17]).unwrap();
-    /// assert!(day.intersects(RangeSetRef::single(&16)));
-    /// assert!(!day.intersects(RangeSetRef::single(&17)));
-    /// ```
-    #[must_use]
-    pub fn intersects(&self, that: &RangeSetRef<T>) -> bool {
-        self.proved().intersects(that.proved())
-    }
-
-    /// Returns `true` if the sets have no member in common. It stops at the first common one.
-    ///
-    /// # Examples
-    ///
-    /// ```
-    /// use range_sets::RangeSetRef;
-    ///
-    /// let day = RangeSetRef::new(&[9, 17]).unwrap();
-    /// assert!(day.is_disjoint(RangeSetRef::single(&17)));
-    /// ```
-    #[must_use]
-    pub fn is_disjoint(&self, that: &RangeSetRef<T>) -> bool {
-        self.proved().is_disjoint(that.proved())
-    }
-
-    /// Returns `true` if every member of this set is one of `that`. A set is a subset of itself.
-    ///
-    /// # Examples
-    ///
-    /// ```
-    /// use range_sets::RangeSetRef;
-    ///
-    /// let day = RangeSetRef::new(&[9, 17]).unwrap();
-    /// let noon = RangeSetRef::new(&[12, 13]).unwrap();
-    /// assert!(noon.is_subset(day));
-    /// assert!(!day.is_subset(noon));
-    /// ```
-    #[must_use]
-    pub fn is_subset(&self, that: &RangeSetRef<T>) -> bool {
-        self.proved().is_subset(that.proved())
-    }
-
-    /// Returns `true` if every member of `that` is one of this set. A set is a superset of itself.
-    ///
-    /// # Examples
-    ///
-    /// ```
-    /// use range_sets::RangeSetRef;
-    ///
-    /// let day = RangeSetRef::new(&[9, 17]).unwrap();
-    /// let noon = RangeSetRef::new(&[12, 13]).unwrap();
-    /// assert!(day.is_superset(noon));
-    /// ```
-    #[must_use]
-    pub fn is_superset(&self, that: &RangeSetRef<T>) -> bool {
-        self.proved().is_superset(that.proved())
-    }
-
     /// Whether some value of the range is no member.
     pub(crate) fn lacks_some(&self, range: &RangeSetRange<T>) -> bool {
         match range {
@@ -125,53 +62,6 @@ impl<T: Ord> RangeSetRef<T> {
         T: FromPlace,
     {
         self.proved().members()
-    }
-
-    /// Returns `true` if the result of an operation has a member. It stops at the first one.
-    ///
-    /// # Panics
-    ///
-    /// Panics if the operation has members where both sets have none, as
-    /// [`merge_len`](Self::merge_len) does.
-    ///
-    /// # Examples
-    ///
-    /// ```
-    /// use range_sets::{Connective, RangeSetRef};
-    ///
-    /// let a = RangeSetRef::new(&[0, 10]).unwrap();
-    /// assert!(a.merge_test(RangeSetRef::empty(), Connective::DIFFERENCE));
-    /// assert!(!a.merge_test(a, Connective::SYMMETRIC_DIFFERENCE));
-    /// ```
-    #[must_use]
-    pub fn merge_test(&self, that: &RangeSetRef<T>, op: Connective) -> bool {
-        self.check_merge(that, op);
-        self.proved()
-            .merge_test(that.proved(), &op, &mut Comparisons::new())
-    }
-
-    /// Returns how many boundaries the result of an operation has, without making it.
-    ///
-    /// # Panics
-    ///
-    /// Panics if the operation has members where both sets have none. Those have no list of
-    /// boundaries without a least value: see [`combine`](Self::combine).
-    ///
-    /// # Examples
-    ///
-    /// ```
-    /// use range_sets::{Connective, RangeSetRef};
-    ///
-    /// let a = RangeSetRef::new(&[0, 10]).unwrap();
-    /// let b = RangeSetRef::new(&[5, 15]).unwrap();
-    /// assert_eq!(a.merge_len(b, Connective::UNION), 2);
-    /// assert_eq!(a.merge_len(b, Connective::SYMMETRIC_DIFFERENCE), 4);
-    /// ```
-    #[must_use]
-    pub fn merge_len(&self, that: &RangeSetRef<T>, op: Connective) -> usize {
-        self.check_merge(that, op);
-        self.proved()
-            .merge_len(that.proved(), &op, &mut Comparisons::new())
     }
 
     /// Writes the boundaries of an operation's result to the front of `out`, and returns how many
@@ -212,21 +102,8 @@ impl<T: Ord> RangeSetRef<T> {
     where
         T: Copy,
     {
-        self.check_merge(that, op);
+        check_merge(self, that, op);
         self.proved()
             .merge_into(that.proved(), &op, out, &mut Comparisons::new())
-    }
-
-    /// Panics if the operation or the lengths of the sets break what the generated merges require.
-    fn check_merge(&self, that: &RangeSetRef<T>, op: Connective) {
-        assert!(
-            !op.neither,
-            "the operation has members where both sets have none"
-        );
-        let len = self.boundaries().len().checked_add(that.boundaries().len());
-        assert!(
-            len.is_some(),
-            "both sets together have more boundaries than a usize counts"
-        );
     }
 }
