@@ -11,13 +11,14 @@
 mod by_value;
 mod within;
 
-pub use by_value::{Ended, Overlaps, PartsOf};
-pub use within::{PartsFrom, PartsWithin, Within};
+pub(crate) use by_value::{Boundaries, Parted};
+pub use by_value::{Ended, EndedParts, Overlaps, Parts, PartsFrom, PartsOf};
+pub use within::{PartsWithin, Within};
 
 use crate::entry::RangeSetEntry;
 use crate::range::RangeSetRange;
 use core::num::{NonZeroU128, NonZeroU16, NonZeroU32, NonZeroU64, NonZeroU8, NonZeroUsize};
-use core::ops::{Range, RangeFrom, RangeFull, RangeInclusive, RangeTo, RangeToInclusive};
+use core::ops::{Bound, Range, RangeFrom, RangeFull, RangeInclusive, RangeTo, RangeToInclusive};
 use core::time::Duration;
 use sealed::Sealed;
 #[cfg(feature = "std")]
@@ -31,6 +32,7 @@ use std::net::{Ipv4Addr, Ipv6Addr};
 /// | `..b`, `..` | [`RangeSetEntry`](crate::RangeSetEntry), a least value | the range from that on |
 /// | `a..=b` | [`NextValue`] | `a..c` with the value `c` after `b`, or `a..` if there is none |
 /// | `..=b` | both | |
+/// | `(Bound<T>, Bound<T>)` | both | the range between them, as `(Excluded(a), Included(b))` |
 /// | [`RangeSetRange`] | nothing more | the range itself |
 /// | `&(a..b)` | [`Clone`] | a clone of the range |
 ///
@@ -63,13 +65,32 @@ use std::net::{Ipv4Addr, Ipv6Addr};
 )]
 pub trait AnyRange<T>: Sealed + Into<RangeSetRange<T>> {}
 
-impl<T> AnyRange<T> for Range<T> {}
-impl<T> AnyRange<T> for RangeFrom<T> {}
-impl<T: RangeSetEntry> AnyRange<T> for RangeTo<T> {}
-impl<T: RangeSetEntry> AnyRange<T> for RangeFull {}
-impl<T: NextValue> AnyRange<T> for RangeInclusive<T> {}
-impl<T: RangeSetEntry + NextValue> AnyRange<T> for RangeToInclusive<T> {}
-impl<T> AnyRange<T> for RangeSetRange<T> {}
+/// Calls a macro with each kind of range between values, and what it asks of the element.
+macro_rules! each_range {
+    ($call:ident) => {
+        $call! {
+            Range<T>;
+            RangeFrom<T>;
+            RangeTo<T>: RangeSetEntry;
+            RangeFull: RangeSetEntry;
+            RangeInclusive<T>: NextValue;
+            RangeToInclusive<T>: RangeSetEntry NextValue;
+            (Bound<T>, Bound<T>): RangeSetEntry NextValue;
+            RangeSetRange<T>;
+        }
+    };
+}
+
+pub(crate) use each_range;
+
+macro_rules! any_range {
+    ($($range:ty $(: $($bound:ident)+)?;)*) => {$(
+        impl<T $(: $($bound +)+)?> AnyRange<T> for $range {}
+    )*};
+}
+
+each_range!(any_range);
+
 impl<T: Clone> AnyRange<T> for &Range<T> {}
 
 /// What becomes a [`RangeSetRange`] by `into`, as what a set is collected of.
@@ -122,7 +143,9 @@ impl Sealed for RangeFull {}
 impl<T> Sealed for RangeInclusive<T> {}
 impl<T> Sealed for RangeToInclusive<T> {}
 impl<T> Sealed for RangeSetRange<T> {}
+impl<T> Sealed for (Bound<T>, Bound<T>) {}
 impl<T> Sealed for &Range<T> {}
+impl<T> Sealed for &mut Range<T> {}
 
 /// An element type whose values have a next one, so that `a..=b` is a range of it.
 ///

@@ -1,15 +1,17 @@
 //! Questions that views and sets in chunks have in common. None takes memory.
 
-use crate::any_range::{AnyRange, Ended, Within};
-use crate::chunked::ChunkedRangeSet;
-use crate::entry::RangeSetEntry;
+use crate::any_range::{AnyRange, Ended, Overlaps, Within};
+use crate::chunked::{ChunkedRangeSet, Iter as ChunkedIter};
+use crate::entry::{Length, RangeSetEntry};
+use crate::fitting;
 use crate::generated::range_collections::{Countable, FromPlace};
+use crate::iter::Iter;
 use crate::range::RangeSetRange;
 use crate::view::RangeSetRef;
 
 /// `$name` is the set of the examples.
 macro_rules! questions {
-    ($Set:ident, $name:literal) => {
+    ($Set:ident, $Iter:ident, $name:literal) => {
         impl<T: Ord> $Set<T> {
             /// Returns `true` if `value` is a member.
             ///
@@ -195,6 +197,25 @@ macro_rules! questions {
                 self.proved().prev_member(from)
             }
 
+            /// Returns the greatest member, or `None` if the set is empty. It makes *O*(log *n*)
+            /// comparisons.
+            ///
+            /// # Examples
+            ///
+            /// ```
+            #[doc = concat!("use range_sets::", $name, ";")]
+            ///
+            #[doc = concat!("assert_eq!(", $name, "::from([9u8..11, 15..18]).last_member(), Some(17));")]
+            #[doc = concat!("assert_eq!(", $name, "::from(9u8..).last_member(), Some(255));")]
+            /// ```
+            #[must_use]
+            pub fn last_member(&self) -> Option<T>
+            where
+                T: FromPlace,
+            {
+                self.prev_member(&T::greatest())
+            }
+
             /// Returns the greatest value at or below `from` that is no member, or `None` if there
             /// is none.
             ///
@@ -307,6 +328,27 @@ macro_rules! questions {
                 within.parts_of(self, true)
             }
 
+            /// Returns an iterator over the ranges of the set that share a value with a range [of
+            /// any kind](Overlaps), from the lowest on. They aren't cut.
+            ///
+            /// It makes *O*(log *n*) comparisons, and none for a step.
+            ///
+            /// # Examples
+            ///
+            /// ```
+            #[doc = concat!("use range_sets::", $name, ";")]
+            ///
+            #[doc = concat!("let busy = ", $name, "::from([9..11, 12..15, 20..30]);")]
+            /// let met: Vec<_> = busy.overlapping(10..13).copied().collect();
+            /// assert_eq!(met, [(9..11).into(), (12..15).into()]);
+            /// ```
+            pub fn overlapping(&self, range: impl Overlaps<T>) -> $Iter<'_, T> {
+                range.found(|range| match range {
+                    RangeSetRange::Range(it) => $Iter::of_proved(self.proved().overlapping(it)),
+                    RangeSetRange::RangeFrom(from) => self.overlapping_from(from.start),
+                })
+            }
+
             /// Returns how many values are members, or `None` if the set has no end. A set without
             /// an end has [`rank`](Self::rank) of the greatest value members, and that value.
             ///
@@ -407,6 +449,30 @@ macro_rules! questions {
                     .first_fit_aligned(within, count, align)
             }
 
+            /// Returns the greatest value of the range from which on `len` values of it are free,
+            /// that is, not members.
+            ///
+            /// It is `None` if there is no such stretch, and for a `len` of 0 the end of a range that
+            /// isn't reversed. It takes time for each boundary down to the result.
+            ///
+            /// # Examples
+            ///
+            /// ```
+            #[doc = concat!("use range_sets::", $name, ";")]
+            ///
+            #[doc = concat!("let used = ", $name, "::from([0u64..64, 80..128]);")]
+            /// assert_eq!(used.last_fit(0..140, 10), Some(130));
+            /// assert_eq!(used.last_fit(0..140, 16), Some(64));
+            /// assert_eq!(used.last_fit(0..140, 20), None);
+            /// ```
+            #[must_use]
+            pub fn last_fit(&self, within: impl Ended<T>, len: T) -> Option<T>
+            where
+                T: Length + FromPlace,
+            {
+                fitting::last_fit(self, within, len)
+            }
+
             /// Returns the least value of the range from which on `count` values of it are members:
             /// where they fit, in a set of what is free.
             ///
@@ -433,5 +499,5 @@ macro_rules! questions {
     };
 }
 
-questions!(RangeSetRef, "RangeSet2");
-questions!(ChunkedRangeSet, "ChunkedRangeSet");
+questions!(RangeSetRef, Iter, "RangeSet2");
+questions!(ChunkedRangeSet, ChunkedIter, "ChunkedRangeSet");

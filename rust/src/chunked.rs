@@ -7,8 +7,8 @@ mod members;
 mod taking;
 mod traits;
 
-pub use iter::{Gaps, IntoIter, Iter, RangesWithin};
 pub use crate::relations::AnySet;
+pub use iter::{Gaps, IntoIter, Iter, RangesWithin};
 pub use members::Members;
 
 use crate::any_range::Ended;

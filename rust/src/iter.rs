@@ -1,10 +1,12 @@
 //! The ranges of a set, one by one.
 
+use crate::any_range::EndedParts;
 use crate::array::Array;
 use crate::generated::range_collections::{self as proved, FromPlace};
 use crate::range::RangeSetRange;
 use core::fmt;
 use core::ops::Range;
+use core::slice;
 use smallvec::SmallVec;
 
 /// [`RangeSetRef::gaps`] makes it.
@@ -21,7 +23,7 @@ use smallvec::SmallVec;
 /// assert_eq!(free.next(), Some(&11..&13));
 /// assert_eq!(free.next(), None);
 /// ```
-pub use crate::generated::range_collections::Gaps;
+pub type Gaps<'a, T> = RangesWithin<'a, T>;
 /// [`RangeSetRef::members`] makes it.
 ///
 /// [`RangeSetRef::members`]: crate::RangeSetRef::members
@@ -37,7 +39,8 @@ pub use crate::generated::range_collections::Gaps;
 /// assert_eq!(format!("{seats:?}"), "[4]");
 /// ```
 pub use crate::generated::range_collections::Members;
-/// [`RangeSetRef::ranges_within`] makes it, and [`RangeSetRef::gaps`].
+/// The parts of a range that are in a set or not, from both ends. [`RangeSetRef::ranges_within`]
+/// makes it, and [`RangeSetRef::gaps`].
 ///
 /// [`RangeSetRef::gaps`]: crate::RangeSetRef::gaps
 /// [`RangeSetRef::ranges_within`]: crate::RangeSetRef::ranges_within
@@ -50,24 +53,27 @@ pub use crate::generated::range_collections::Members;
 /// let busy = RangeSetRef::new(&[9, 11]).unwrap();
 /// let mut parts: RangesWithin<i32> = busy.ranges_within(&10..&13);
 /// assert_eq!(parts.next(), Some(&10..&11));
-/// assert_eq!(parts.next(), None);
+/// assert_eq!(parts.next_back(), None);
 /// ```
-pub use crate::generated::range_collections::RangesWithin;
+pub type RangesWithin<'a, T> = EndedParts<&'a T, slice::Iter<'a, T>>;
 
 /// Gives an iterator over ranges between references `cloned` and `copied`, as those over references
 /// have them.
 macro_rules! owned_ranges {
-    ($($iter:ident<'a, $T:ident $(, $others:ident)*> { $range:ident: $clone:expr })*) => {$(
-        impl<'a, $T: Clone $(, $others)*> $iter<'a, $T $(, $others)*> {
-            /// Returns an iterator over the ranges between clones of the ends.
-            pub fn cloned(self) -> core::iter::Map<Self, fn($range<&'a $T>) -> $range<$T>> {
+    ($([$($generics:tt)*] $iter:ty: $item:ty => $owned:ty, $clone:expr, of $($T:ident)*;)*) => {$(
+        impl<$($generics)*> $iter {
+            /// Returns an iterator over clones of what this one yields by reference.
+            pub fn cloned(self) -> core::iter::Map<Self, fn($item) -> $owned>
+            where
+                $($T: Clone),*
+            {
                 self.map($clone)
             }
 
-            /// Returns an iterator over the ranges between copies of the ends.
-            pub fn copied(self) -> core::iter::Map<Self, fn($range<&'a $T>) -> $range<$T>>
+            /// Returns an iterator over copies of what this one yields by reference.
+            pub fn copied(self) -> core::iter::Map<Self, fn($item) -> $owned>
             where
-                $T: Copy,
+                $($T: Copy),*
             {
                 self.cloned()
             }
@@ -160,13 +166,16 @@ macro_rules! ranges_by_value {
 pub(crate) use {owned_ranges, ranges_by_value, shown, wraps};
 
 owned_ranges! {
-    Iter<'a, T> { RangeSetRange: |range| range.cloned() }
-    RangesWithin<'a, T> { Range: |range| range.start.clone()..range.end.clone() }
+    ['a, T] Iter<'a, T>: RangeSetRange<&'a T> => RangeSetRange<T>, |it| it.cloned(), of T;
+}
+
+/// The range between clones of both ends.
+pub(crate) fn cloned_range<T: Clone>(range: Range<&T>) -> Range<T> {
+    range.start.clone()..range.end.clone()
 }
 
 shown! {
     [T: fmt::Debug] Iter<'_, T>;
-    [T: fmt::Debug] RangesWithin<'_, T>;
     [T: FromPlace + fmt::Debug] Members<'_, T>;
 }
 

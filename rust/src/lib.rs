@@ -46,6 +46,7 @@ pub mod chunked;
 mod chunks;
 mod entry;
 pub mod fallible;
+mod fitting;
 // The modules beside it re-export its names.
 #[allow(missing_docs, clippy::undocumented_unsafe_blocks)]
 mod generated;
@@ -70,7 +71,8 @@ pub mod tracker;
 mod view;
 
 pub use any_range::{
-    AnyRange, Ended, IntoRange, NextValue, Overlaps, PartsFrom, PartsOf, PartsWithin, Within,
+    AnyRange, Ended, EndedParts, IntoRange, NextValue, Overlaps, Parts, PartsFrom, PartsOf,
+    PartsWithin, Within,
 };
 pub use array::Array;
 pub use chunked::ChunkedRangeSet;

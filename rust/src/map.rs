@@ -3,6 +3,7 @@
 //! [`Map`] is one type with two names: [`RangeMap`], whose calls end the process if memory runs
 //! out, and [`fallible::RangeMap`](crate::fallible::RangeMap), whose calls return an error.
 
+mod any_keys;
 mod changes;
 mod combining;
 mod composed;
@@ -11,9 +12,11 @@ mod iter;
 #[cfg(feature = "serde")]
 mod json;
 mod kept;
+mod parts;
 mod steps;
 mod traits;
 
+pub use any_keys::AnyKeys;
 pub use composed::{Keys, Values};
 pub use iter::{Gaps, IntoIter, Iter};
 pub use kept::ByClone;
@@ -24,7 +27,7 @@ use crate::any_range::{AnyRange, Overlaps, Within};
 use crate::generated::range_collections::Comparisons;
 use crate::generated::range_entry::EntryClone;
 use crate::generated::range_map as proved;
-use crate::generated::range_map::places::{option_before, place_up_to};
+use crate::generated::range_map::places::{option_before, place_below, place_up_to};
 use crate::generated::range_map::{InsertError, MapFilter};
 use crate::memory::AllocError;
 use crate::range::RangeSetRange;
@@ -269,13 +272,19 @@ impl<K: Ord, V: Eq, C> Map<K, V, C> {
         within.parts_of(self, false)
     }
 
-    /// Whether the key has a value, and where that changes above it.
-    pub(crate) fn changes_above(&self, key: &K) -> (bool, Changes<'_, K, V, C>) {
-        let steps = &self.0.steps;
-        let above = place_up_to(steps, key, &mut Comparisons::new());
-        let has_value = option_before(steps, above).is_some();
-        let left = steps.between(above, steps.end());
-        (has_value, Changes::new(left, has_value))
+    /// Whether a key has a value, where that changes above it and below a limit, and whether keys
+    /// before the limit have one.
+    pub(crate) fn changes_within(
+        &self,
+        start: &K,
+        limit: Option<&K>,
+    ) -> (bool, Changes<'_, K, V, C>, bool) {
+        let (steps, count) = (&self.0.steps, &mut Comparisons::new());
+        let from = place_up_to(steps, start, count);
+        let to = limit.map_or(steps.end(), |limit| place_below(steps, limit, count));
+        let has_value = |at| option_before(steps, at).is_some();
+        let changes = Changes::new(steps.between(from, to), has_value(from));
+        (has_value(from), changes, has_value(to))
     }
 
     #[inline(always)]

@@ -16,6 +16,7 @@ use crate::view::RangeSetRef;
 use alloc::string::{String, ToString};
 use core::fmt::{self, Write};
 use core::mem;
+use core::ops::Bound;
 
 /// A text is no multirange of a type's numbers, or memory ran out.
 ///
@@ -293,7 +294,7 @@ impl<'a> Reader<'a> {
         let word = self.rest.get(.."empty".len());
         if word.map_or(false, |word| word.eq_ignore_ascii_case("empty")) {
             self.rest = &self.rest["empty".len()..];
-            return Ok(nothing());
+            return Ok((T::min_value()..T::min_value()).into());
         }
         let has_start = self.takes('[');
         let opened = has_start || self.takes('(');
@@ -305,7 +306,12 @@ impl<'a> Reader<'a> {
         let has_end = self.takes(']');
         let closed = has_end || self.takes(')');
         self.expect(closed)?;
-        Ok(half_open(start, has_start, end, has_end))
+        let bound = |value, is_in| match value {
+            None => Bound::Unbounded,
+            Some(value) if is_in => Bound::Included(value),
+            Some(value) => Bound::Excluded(value),
+        };
+        Ok((bound(start, has_start), bound(end, has_end)).into())
     }
 
     /// A number, or none where there is no end.
@@ -346,32 +352,4 @@ impl<'a> Reader<'a> {
     fn at(&self) -> usize {
         self.len - self.rest.len()
     }
-}
-
-/// The range with its start and without its end.
-fn half_open<T: RangeSetEntry + NextValue>(
-    start: Option<T>,
-    has_start: bool,
-    end: Option<T>,
-    has_end: bool,
-) -> RangeSetRange<T> {
-    let start = match start {
-        None => Some(T::min_value()),
-        Some(start) if has_start => Some(start),
-        Some(before) => before.next_value(),
-    };
-    let end = match end {
-        Some(last) if has_end => last.next_value(),
-        end => end,
-    };
-    match start {
-        Some(start) => RangeSetRange::of_ends(start, end),
-        // The start would be above the greatest number.
-        None => nothing(),
-    }
-}
-
-/// An empty range.
-fn nothing<T: RangeSetEntry>() -> RangeSetRange<T> {
-    RangeSetRange::Range(T::min_value()..T::min_value())
 }

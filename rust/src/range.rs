@@ -81,6 +81,16 @@ impl<T: Clone> RangeSetRange<&T> {
 }
 
 impl<T> RangeSetRange<&T> {
+    /// Clones of the ends of what it has in common with another range.
+    pub(crate) fn common_with(&self, that: &RangeSetRange<T>) -> RangeSetRange<T>
+    where
+        T: Ord + Clone,
+    {
+        let start = T::clone((*self.start()).max(that.start()));
+        let ends = self.end().copied().into_iter().chain(that.end());
+        RangeSetRange::of_ends(start, ends.min().cloned())
+    }
+
     /// The range of copies of both ends.
     pub(crate) fn copied_by<P: Copier<T>>(
         &self,
@@ -365,6 +375,37 @@ impl<T: RangeSetEntry + NextValue> From<RangeToInclusive<T>> for RangeSetRange<T
     }
 }
 
+/// From the value at the first bound or after it up to the other one.
+///
+/// # Examples
+///
+/// ```
+/// use range_sets::RangeSetRange;
+/// use std::ops::Bound::{Excluded, Included, Unbounded};
+///
+/// assert_eq!(RangeSetRange::from((Excluded(3u8), Included(5))), (4..6).into());
+/// assert_eq!(RangeSetRange::from((Included(3u8), Unbounded)), (3..).into());
+/// ```
+impl<T: RangeSetEntry + NextValue> From<(Bound<T>, Bound<T>)> for RangeSetRange<T> {
+    fn from((start, end): (Bound<T>, Bound<T>)) -> Self {
+        let start = match start {
+            Bound::Included(start) => Some(start),
+            Bound::Excluded(before) => before.next_value(),
+            Bound::Unbounded => Some(T::min_value()),
+        };
+        let end = match end {
+            Bound::Included(last) => last.next_value(),
+            Bound::Excluded(end) => Some(end),
+            Bound::Unbounded => None,
+        };
+        match start {
+            Some(start) => Self::of_ends(start, end),
+            // The start would be above the greatest value.
+            None => Self::Range(T::min_value()..T::min_value()),
+        }
+    }
+}
+
 /// A clone of the range, so that a set is collected from borrowed ranges.
 ///
 /// # Examples
@@ -402,6 +443,36 @@ impl<T> TryFrom<RangeSetRange<T>> for Range<T> {
             RangeSetRange::Range(range) => Ok(range),
             RangeSetRange::RangeFrom(range) => Err(range),
         }
+    }
+}
+
+/// The range of std up to the last value, which is the greatest one if the range has no end. An empty
+/// range comes back as an error.
+///
+/// # Examples
+///
+/// ```
+/// use range_sets::RangeSetRange;
+/// use std::ops::RangeInclusive;
+///
+/// let inclusive = |range| RangeInclusive::try_from(RangeSetRange::from(range));
+/// assert_eq!(inclusive(3u8..6), Ok(3..=5));
+/// assert!(inclusive(3..3).is_err());
+/// assert_eq!(RangeInclusive::try_from(RangeSetRange::from(250u8..)), Ok(250..=255));
+/// ```
+impl<T: FromPlace> TryFrom<RangeSetRange<T>> for RangeInclusive<T> {
+    type Error = RangeSetRange<T>;
+
+    fn try_from(range: RangeSetRange<T>) -> Result<Self, RangeSetRange<T>> {
+        if range.is_empty() {
+            return Err(range);
+        }
+        let (start, end) = range.into_ends();
+        let last = match end {
+            Some(end) => T::from_place(end.place() - 1),
+            None => Some(T::greatest()),
+        };
+        Ok(start..=last.expect("there are values up to an end"))
     }
 }
 

@@ -2,8 +2,8 @@
 
 mod calls;
 
-use crate::any_range::{AnyRange, IntoRange, Within};
-use crate::chunked::{ChunkedRangeSet, Iter};
+use crate::any_range::IntoRange;
+use crate::chunked::ChunkedRangeSet;
 use crate::generated::range_chunks as proved;
 use crate::generated::range_collections::Countable;
 use core::ops::Deref;
@@ -55,95 +55,6 @@ impl<T: Countable + Copy> ChunkedSpace<T> {
     #[must_use]
     pub fn as_set(&self) -> &ChunkedRangeSet<T> {
         ChunkedRangeSet::over(self.0.as_set())
-    }
-
-    /// Returns `true` if this value is taken.
-    ///
-    /// # Examples
-    ///
-    /// ```
-    /// use range_sets::ChunkedSpace;
-    ///
-    /// let used = ChunkedSpace::from_ranges([0u64..64]);
-    /// assert!(used.contains(&63) && !used.contains(&64));
-    /// ```
-    #[must_use]
-    pub fn contains(&self, value: &T) -> bool {
-        self.as_set().contains(value)
-    }
-
-    /// Returns `true` if some value of a range [of any kind](AnyRange) is taken.
-    ///
-    /// # Examples
-    ///
-    /// ```
-    /// use range_sets::ChunkedSpace;
-    ///
-    /// let used = ChunkedSpace::from_ranges([0u64..64]);
-    /// assert!(used.intersects_range(60..70) && !used.intersects_range(64..));
-    /// ```
-    #[must_use]
-    pub fn intersects_range(&self, range: impl AnyRange<T>) -> bool {
-        self.as_set().intersects_range(range)
-    }
-
-    /// Returns `true` if nothing is taken.
-    ///
-    /// # Examples
-    ///
-    /// ```
-    /// use range_sets::ChunkedSpace;
-    ///
-    /// assert!(ChunkedSpace::<u32>::new().is_empty());
-    /// ```
-    #[must_use]
-    pub fn is_empty(&self) -> bool {
-        self.as_set().is_empty()
-    }
-
-    /// Returns how many values are taken, or `None` if what is taken has no end. It looks at each
-    /// boundary.
-    ///
-    /// # Examples
-    ///
-    /// ```
-    /// use range_sets::ChunkedSpace;
-    ///
-    /// let used = ChunkedSpace::from_ranges([0u64..64, 80..128]);
-    /// assert_eq!(used.covered(), Some(112));
-    /// ```
-    #[must_use]
-    pub fn covered(&self) -> Option<u128> {
-        self.as_set().covered()
-    }
-
-    /// Returns an iterator over the ranges that are taken, from the lowest on.
-    ///
-    /// # Examples
-    ///
-    /// ```
-    /// use range_sets::ChunkedSpace;
-    ///
-    /// let used = ChunkedSpace::from_ranges([80u64..128, 0..64]);
-    /// assert_eq!(used.iter().next(), Some((&0..&64).into()));
-    /// ```
-    pub fn iter(&self) -> Iter<'_, T> {
-        self.as_set().iter()
-    }
-
-    /// Returns an iterator over the parts of a range [of any kind](Within) that are free, from the
-    /// lowest on.
-    ///
-    /// # Examples
-    ///
-    /// ```
-    /// use range_sets::ChunkedSpace;
-    ///
-    /// let used = ChunkedSpace::from_ranges([0u64..64, 80..128]);
-    /// assert!(used.gaps(0..256).eq([64..80, 128..256]));
-    /// ```
-    pub fn gaps<'a, R: Within<'a, T, ChunkedRangeSet<T>>>(&'a self, within: R) -> R::Parts {
-        self.as_set().gaps(within)
     }
 
     pub(crate) fn proved_mut(&mut self) -> &mut proved::ChunkedSpace<T> {

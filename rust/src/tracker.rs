@@ -9,7 +9,6 @@ mod calls;
 use crate::any_range::AnyRange;
 use crate::chunked::ChunkedRangeSet;
 use crate::generated::range_chunked_tracker;
-use crate::generated::range_chunks::Gaps;
 use crate::generated::range_list::Chunks;
 use crate::generated::range_tracker;
 use crate::memory::AllocError;
@@ -161,11 +160,6 @@ impl ChunkedTracker {
 
     pub(crate) fn boundaries(&self) -> &Chunks<u64, bool> {
         &self.0.list
-    }
-
-    #[inline(always)]
-    pub(crate) fn gaps_between<'a>(&'a self, within: Range<&'a u64>) -> Gaps<'a, u64> {
-        self.0.gaps(within)
     }
 }
 

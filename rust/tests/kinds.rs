@@ -49,6 +49,11 @@ fn parts(within: &impl RangeBounds<u8>, is_wanted: impl Fn(u8) -> bool) -> Vec<P
     found
 }
 
+/// The range itself.
+fn parts_of_all(range: &impl RangeBounds<u8>) -> Vec<Part> {
+    parts(range, |_| true)
+}
+
 /// The ranges of a set that have a value of a range.
 fn met(boundaries: &[u8], range: &impl RangeBounds<u8>) -> Vec<Part> {
     let all = parts(&(..), |value| is_member(boundaries, value));
@@ -69,6 +74,23 @@ fn of_bounds((start, end): (Bound<&u8>, Bound<&u8>)) -> Part {
     }
 }
 
+/// Parts from the lowest on, from the highest down, and from both ends in turn.
+fn both_ways(parts: impl DoubleEndedIterator<Item = Part> + Clone, wanted: &[Part], what: &str) {
+    assert_eq!(parts.clone().collect::<Vec<_>>(), wanted, "{what}");
+    assert!(
+        parts.clone().rev().eq(wanted.iter().rev().cloned()),
+        "{what}"
+    );
+    let (mut left, mut low, mut high) = (parts, Vec::new(), Vec::new());
+    while let Some(part) = left.next() {
+        low.push(part);
+        high.extend(left.next_back());
+    }
+    assert!(left.next_back().is_none(), "{what}");
+    low.extend(high.into_iter().rev());
+    assert_eq!(low, wanted, "{what}");
+}
+
 /// Asks each type for its gaps, its parts and the ranges that are met. A view may give its parts in
 /// another form.
 macro_rules! ask {
@@ -80,21 +102,22 @@ macro_rules! ask {
         let met = met(boundaries, &range);
 
         let view = RangeSetRef::new(boundaries).unwrap();
-        let found: Vec<Part> = view.gaps(range.clone()).map($of_view).collect();
-        assert_eq!(found, gaps, "{what}");
-        let found: Vec<Part> = view.ranges_within(range.clone()).map($of_view).collect();
-        assert_eq!(found, inside, "{what}");
+        both_ways(view.gaps(range.clone()).map($of_view), &gaps, &what);
+        both_ways(
+            view.ranges_within(range.clone()).map($of_view),
+            &inside,
+            &what,
+        );
         let found: Vec<Part> = view.overlapping(range.clone()).copied().collect();
         assert_eq!(found, met, "{what}");
 
         let chunked = ChunkedRangeSet::from(view);
-        let found: Vec<Part> = chunked.gaps(range.clone()).map(Part::from).collect();
-        assert_eq!(found, gaps, "{what}");
-        let found: Vec<Part> = chunked
-            .ranges_within(range.clone())
-            .map(Part::from)
-            .collect();
-        assert_eq!(found, inside, "{what}");
+        both_ways(chunked.gaps(range.clone()).map(Part::from), &gaps, &what);
+        both_ways(
+            chunked.ranges_within(range.clone()).map(Part::from),
+            &inside,
+            &what,
+        );
         let found: Vec<Part> = chunked.overlapping(range.clone()).copied().collect();
         assert_eq!(found, met, "{what}");
 
@@ -115,12 +138,43 @@ macro_rules! ask {
             .map(|(key, _)| key.copied())
             .collect();
         assert_eq!(found, met, "{what}");
+        both_ways(
+            map.ranges_within(range.clone()).map(|(key, _)| key),
+            &inside,
+            &what,
+        );
         // Neighbours with other values have no gap between them.
         for start in view.iter().map(|part| **part.start()) {
             map.insert(start..=start, false);
         }
-        let found: Vec<Part> = map.gaps(range.clone()).map(Part::from).collect();
-        assert_eq!(found, gaps, "{what}");
+        both_ways(map.gaps(range.clone()).map(Part::from), &gaps, &what);
+        let parts = map.ranges_within(range.clone());
+        let joined: RangeSet2<u8> = parts.clone().map(|(key, _)| key).collect();
+        assert!(joined.into_iter().eq(inside), "{what}");
+        for (key, value) in parts {
+            let whole = map.get_key_value(key.start()).map(|(_, value)| value);
+            assert_eq!(whole, Some(value), "{what}");
+        }
+
+        // The keys that calls of maps take.
+        let kept = map.restrict(range.clone());
+        let within: RangeSet2<u8> = RangeSet2::from_ranges(parts_of_all(&range));
+        assert_eq!(kept, map.restrict(&within), "{what}");
+        assert_eq!(
+            kept,
+            map.restrict(&ChunkedRangeSet::from(within.clone())),
+            "{what}"
+        );
+        assert!(kept.iter().copied().eq(map
+            .ranges_within(range.clone())
+            .map(|(key, value)| (key, *value))));
+        let rest = map.without(range.clone());
+        assert_eq!(rest, map.without(&mut within.clone()), "{what}");
+        assert_eq!(rest.union_with_left(&kept), map, "{what}");
+        let (mut own, mut others) = (map.clone(), map);
+        own.retain_all(range.clone());
+        others.remove_all(range.clone());
+        assert_eq!((own, others), (kept, rest), "{what}");
     }};
 }
 
@@ -137,7 +191,22 @@ fn between_values() {
                 ask!(&boundaries, a..b, Part::from);
                 ask!(&boundaries, a..=b, Part::from);
                 ask!(&boundaries, RangeSetRange::from(a..b), Part::from);
+                ask!(
+                    &boundaries,
+                    (Bound::Excluded(a), Bound::Included(b)),
+                    Part::from
+                );
             }
+            ask!(
+                &boundaries,
+                (Bound::Included(a), Bound::<u8>::Unbounded),
+                Part::from
+            );
+            ask!(
+                &boundaries,
+                (Bound::Unbounded, Bound::Excluded(a)),
+                Part::from
+            );
         }
     }
 }
@@ -173,6 +242,29 @@ fn between_references() {
             }
             same(view.overlapping(a..), view.overlapping(*a..));
             same(chunked.overlapping(a..), chunked.overlapping(*a..));
+            same(chunked.gaps(a..).copied(), view.gaps(*a..));
+            same(map.gaps(a..).copied(), view.gaps(*a..));
+            same(
+                view.gaps(a..b).rev().map(|gap| *gap.start..*gap.end),
+                view.gaps(*a..*b).rev(),
+            );
+            same(chunked.gaps(a..b).rev(), view.gaps(a..b).rev());
+            same(
+                chunked.ranges_within(a..b).rev(),
+                view.ranges_within(a..b).rev(),
+            );
+            let bounds =
+                |(start, end): (Bound<&u8>, Bound<&u8>)| Part::from((start.cloned(), end.cloned()));
+            both_ways(
+                view.gaps(a..=b).map(bounds),
+                &view.gaps(*a..=*b).collect::<Vec<_>>(),
+                "gaps",
+            );
+            both_ways(
+                view.ranges_within(..=b).map(bounds),
+                &view.ranges_within(..=*b).collect::<Vec<_>>(),
+                "parts",
+            );
             same(view.gaps(a..b).cloned(), view.gaps(*a..*b));
             same(view.gaps(a..).copied(), view.gaps(*a..));
             same(chunked.gaps(a..b).cloned(), chunked.gaps(*a..*b));
@@ -196,6 +288,16 @@ fn first_by_hand(
         .and_then(|at| u8::try_from(at).ok())
 }
 
+/// The last of the numbers from which on `count` that are no members lie in the range. None at all fit
+/// at the end, or else at the greatest number.
+fn last_by_hand(view: &RangeSetRef<u8>, within: Range<u16>, count: u16) -> Option<u8> {
+    let is_free = |n| u8::try_from(n).map_or(false, |n| !view.contains(&n));
+    (within.start..=within.end.min(255))
+        .filter(|at| at + count <= within.end)
+        .rfind(|&at| (at..at + count).all(is_free))
+        .and_then(|at| u8::try_from(at).ok())
+}
+
 /// A range without an end goes up to the greatest value, with it.
 #[test]
 fn rows_of_values_in_every_kind_of_range() {
@@ -203,6 +305,7 @@ fn rows_of_values_in_every_kind_of_range() {
         let view = RangeSetRef::new(&boundaries).unwrap();
         let chunked = ChunkedRangeSet::from(view);
         let mut space = ChunkedSpace::from(chunked.clone());
+        let map: RangeMap<u8, usize> = view.iter().copied().zip(0..).collect();
         for numbers in [
             (0, 1),
             (0, 256),
@@ -220,8 +323,12 @@ fn rows_of_values_in_every_kind_of_range() {
                     let (range, within) = ($range, $within);
                     let fit = first_by_hand(view, within.clone(), (numbers.0, 1), false);
                     let aligned = first_by_hand(view, within.clone(), numbers, false);
+                    let last = last_by_hand(view, within.clone(), numbers.0);
                     let run = first_by_hand(view, within, (numbers.0, 1), true);
                     if let Ok(len) = u8::try_from(count) {
+                        assert_eq!(map.first_fit(range.clone(), len), fit);
+                        assert_eq!(view.last_fit(range.clone(), len), last);
+                        assert_eq!(chunked.last_fit(range.clone(), len), last);
                         assert_eq!(view.first_fit(range.clone(), len), fit);
                         assert_eq!(chunked.first_fit_unchanged(range.clone(), len), fit);
                         assert_eq!(space.first_fit(range.clone(), len), fit);

@@ -1,21 +1,21 @@
 //! The parts of a range that are in a set or not, for ranges of any kind.
 
-use super::by_value::{Parted, PartsOf};
+use super::by_value::{Boundaries, EndedParts, Parted, Parts, PartsOf};
 use super::sealed::Sealed;
 use super::NextValue;
 use crate::chunked::ChunkedRangeSet;
 use crate::entry::RangeSetEntry;
-use crate::generated::range_chunks as chunks;
 use crate::generated::range_collections::lists::is_odd;
-use crate::generated::range_collections::{Comparisons, RangesWithin};
+use crate::generated::range_collections::questions::parts_within;
+use crate::generated::range_collections::{Comparisons, Unread as _};
 use crate::generated::range_merge::{count_up_to, search};
-use crate::iter::{owned_ranges, shown};
+use crate::iter::shown;
 use crate::map::{self, Map as RangeMapBy};
 use crate::range::RangeSetRange;
 use crate::tracker::ChunkedTracker;
 use crate::view::RangeSetRef;
 use core::fmt;
-use core::iter::{FusedIterator, Map};
+use core::iter::FusedIterator;
 use core::ops::{Bound, Range, RangeFrom, RangeFull, RangeInclusive, RangeTo, RangeToInclusive};
 
 /// A range, of any kind that std has, within which a set or a map is looked at. `S` is the set, if
@@ -27,14 +27,14 @@ use core::ops::{Bound, Range, RangeFrom, RangeFull, RangeInclusive, RangeTo, Ran
 /// | Range | Asks of the element | A part is |
 /// |---|---|---|
 /// | `a..b` | [`Clone`] | `Range<T>` |
-/// | `a..`, `a..=b`, `..b`, `..=b`, a [`RangeSetRange`] | [`Clone`], and what [`AnyRange`](super::AnyRange) asks | [`RangeSetRange<T>`](RangeSetRange) |
+/// | `a..`, `a..=b`, `..b`, `..=b`, `(Bound<T>, Bound<T>)`, a [`RangeSetRange`] | [`Clone`], and what [`AnyRange`](super::AnyRange) asks | [`RangeSetRange<T>`](RangeSetRange) |
 /// | `&a..&b`, `&(a..b)` | nothing more | `Range<&T>` |
+/// | `&a..` | nothing more | [`RangeSetRange<&T>`](RangeSetRange) |
 ///
 /// Of a `RangeSet` or a view also these, where a part may have its last value within:
 ///
 /// | Range | Asks of the element | A part is |
 /// |---|---|---|
-/// | `&a..` | nothing more | [`RangeSetRange<&T>`](RangeSetRange) |
 /// | `&a..=&b` | nothing more | `(Bound<&T>, Bound<&T>)` |
 /// | `..&b`, `..=&b`, `..` | [`RangeSetEntry`], a least value | `(Bound<&T>, Bound<&T>)` |
 ///
@@ -66,12 +66,7 @@ pub trait Within<'a, T: 'a, S: ?Sized = RangeSetRef<T>>: Sealed {
     fn parts_of(self, set: &'a S, inside: bool) -> Self::Parts;
 }
 
-owned_ranges! {
-    PartsFrom<'a, T> { RangeSetRange: |range| range.cloned() }
-}
-
 shown! {
-    [T: fmt::Debug] PartsFrom<'_, T>;
     [T: fmt::Debug] PartsWithin<'_, T>;
 }
 
@@ -100,13 +95,10 @@ where
 }
 
 impl<'a, T: Ord + Clone + 'a, S: Parted<'a, T> + ?Sized + 'a> Within<'a, T, S> for Range<T> {
-    type Parts = Map<PartsOf<'a, T, S>, fn(RangeSetRange<T>) -> Range<T>>;
+    type Parts = EndedParts<T, S::Ends>;
 
     fn parts_of(self, set: &'a S, inside: bool) -> Self::Parts {
-        PartsOf::new(set, self.into(), inside).map(|part| match part {
-            RangeSetRange::Range(part) => part,
-            RangeSetRange::RangeFrom(_) => unreachable!("a part of a range with an end has one"),
-        })
+        EndedParts(Parts::new(set, self.into(), inside))
     }
 }
 
@@ -117,7 +109,7 @@ macro_rules! by_value {
             type Parts = PartsOf<'a, T, $set>;
 
             fn parts_of(self, set: &'a $set, inside: bool) -> Self::Parts {
-                PartsOf::new(set, self.into(), inside)
+                Parts::new(set, self.into(), inside)
             }
         }
     )*};
@@ -128,48 +120,38 @@ by_value! {
     [T: RangeSetEntry + Clone + 'a, S: Parted<'a, T> + ?Sized + 'a] RangeTo<T>, of S;
     [T: NextValue + Clone + 'a, S: Parted<'a, T> + ?Sized + 'a] RangeInclusive<T>, of S;
     [T: RangeSetEntry + NextValue + Clone + 'a, S: Parted<'a, T> + ?Sized + 'a] RangeToInclusive<T>, of S;
+    [T: RangeSetEntry + NextValue + Clone + 'a, S: Parted<'a, T> + ?Sized + 'a] (Bound<T>, Bound<T>), of S;
     [T: Ord + Clone + 'a, S: Parted<'a, T> + ?Sized + 'a] RangeSetRange<T>, of S;
     [T: RangeSetEntry + Clone + 'a] RangeFull, of ChunkedRangeSet<T>;
     [T: RangeSetEntry + Clone + 'a, V: Eq + 'a, C: 'a] RangeFull, of RangeMapBy<T, V, C>;
 }
 
 macro_rules! between_references {
-    ($($set:ident in $parts:ty;)*) => {$(
-        impl<'a, T: Ord + 'a> Within<'a, T, $set<T>> for Range<&'a T> {
-            type Parts = $parts;
+    ($([$($generics:tt)*] $T:ty, of $set:ty: |$it:ident| $list:expr, $of:expr;)*) => {$(
+        impl<'a, $($generics)*> Within<'a, $T, $set> for Range<&'a $T> {
+            type Parts = EndedParts<&'a $T, <$set as Parted<'a, $T>>::Ends>;
 
             #[inline]
-            fn parts_of(self, set: &'a $set<T>, inside: bool) -> Self::Parts {
-                if inside {
-                    set.proved().ranges_within(self)
-                } else {
-                    set.proved().gaps(self)
-                }
+            fn parts_of(self, $it: &'a $set, inside: bool) -> Self::Parts {
+                let parts = parts_within($list, self, inside, &mut Comparisons::new());
+                EndedParts::found(parts, $of)
             }
         }
     )*};
 }
 
+// A tracker has gaps alone.
 between_references! {
-    RangeSetRef in RangesWithin<'a, T>;
-    ChunkedRangeSet in chunks::RangesWithin<'a, T>;
-}
-
-/// A tracker has gaps alone.
-impl<'a> Within<'a, u64, ChunkedTracker> for Range<&'a u64> {
-    type Parts = chunks::Gaps<'a, u64>;
-
-    #[inline]
-    fn parts_of(self, tracker: &'a ChunkedTracker, _: bool) -> Self::Parts {
-        tracker.gaps_between(self)
-    }
+    [T: Ord + 'a] T, of RangeSetRef<T>: |set| set.boundaries(), <[T]>::iter;
+    [T: Ord + 'a] T, of ChunkedRangeSet<T>: |set| &set.proved().list, Boundaries;
+    [] u64, of ChunkedTracker: |tracker| tracker.boundaries(), Boundaries;
 }
 
 impl<'a> Within<'a, u64, ChunkedTracker> for RangeFull {
     type Parts = PartsOf<'a, u64, ChunkedTracker>;
 
     fn parts_of(self, tracker: &'a ChunkedTracker, inside: bool) -> Self::Parts {
-        PartsOf::new(tracker, self.into(), inside)
+        Parts::new(tracker, self.into(), inside)
     }
 }
 
@@ -183,15 +165,11 @@ impl<'a, K: Ord + 'a, V: Eq + 'a, C: 'a> Within<'a, K, RangeMapBy<K, V, C>> for 
     }
 }
 
-impl<'a, T: Ord + 'a> Within<'a, T> for RangeFrom<&'a T> {
-    type Parts = PartsFrom<'a, T>;
+impl<'a, T: Ord + 'a, S: Parted<'a, T> + ?Sized + 'a> Within<'a, T, S> for RangeFrom<&'a T> {
+    type Parts = Parts<&'a T, S::Ends>;
 
-    fn parts_of(self, set: &'a RangeSetRef<T>, inside: bool) -> PartsFrom<'a, T> {
-        let from = up_to(set, self.start);
-        PartsFrom {
-            first: (is_odd(from) == inside).then_some(self.start),
-            others: &set.boundaries()[from..],
-        }
+    fn parts_of(self, set: &'a S, inside: bool) -> Self::Parts {
+        Parts::new(set, self.into(), inside)
     }
 }
 
@@ -243,53 +221,12 @@ impl<'a, T: RangeSetEntry + 'a> Within<'a, T> for RangeFull {
 }
 
 /// How many boundaries are at or below a value.
-pub(super) fn up_to<T: Ord>(set: &RangeSetRef<T>, value: &T) -> usize {
+fn up_to<T: Ord>(set: &RangeSetRef<T>, value: &T) -> usize {
     count_up_to(set.boundaries(), value, &mut Comparisons::new())
 }
 
-/// The parts of `&a..` that are in a set or not, from the lowest on. The last one may have no end.
-///
-/// [`RangeSetRef::gaps`] and [`RangeSetRef::ranges_within`] make it.
-///
-/// # Examples
-///
-/// ```
-/// use range_sets::{PartsFrom, RangeSetRef};
-///
-/// let busy = RangeSetRef::new(&[9, 11]).unwrap();
-/// let mut free: PartsFrom<i32> = busy.gaps(&10..);
-/// assert_eq!(free.next(), Some((&11..).into()));
-/// assert_eq!(free.next(), None);
-/// ```
-#[must_use = "iterators are lazy and do nothing unless consumed"]
-pub struct PartsFrom<'a, T> {
-    first: Option<&'a T>,
-    others: &'a [T],
-}
-
-impl<'a, T> PartsFrom<'a, T> {
-    fn take(&mut self) -> Option<&'a T> {
-        self.first.take().or_else(|| take_first(&mut self.others))
-    }
-}
-
-impl<'a, T> Iterator for PartsFrom<'a, T> {
-    type Item = RangeSetRange<&'a T>;
-
-    fn next(&mut self) -> Option<Self::Item> {
-        Some(RangeSetRange::of_ends(self.take()?, self.take()))
-    }
-}
-
-impl<T> FusedIterator for PartsFrom<'_, T> {}
-
-impl<T> Clone for PartsFrom<'_, T> {
-    fn clone(&self) -> Self {
-        PartsFrom { ..*self }
-    }
-}
-
-/// The parts of `..&b`, `..`, `&a..=&b` or `..=&b` that are in a set or not, from the lowest on.
+/// The parts of `..&b`, `..`, `&a..=&b` or `..=&b` that are in a set or not, from the lowest on and
+/// from the highest down.
 ///
 /// [`RangeSetRef::gaps`] and [`RangeSetRef::ranges_within`] make it.
 ///
@@ -344,10 +281,27 @@ impl<'a, T> Iterator for PartsWithin<'a, T> {
         let start = self
             .first
             .take()
-            .or_else(|| take_first(&mut self.between).map(Bound::Included))?;
-        let end = take_first(&mut self.between)
+            .or_else(|| self.between.take_first().map(Bound::Included))?;
+        let end = self
+            .between
+            .take_first()
             .map(Bound::Excluded)
             .or_else(|| self.last.take())?;
+        Some((start, end))
+    }
+}
+
+impl<'a, T> DoubleEndedIterator for PartsWithin<'a, T> {
+    fn next_back(&mut self) -> Option<Self::Item> {
+        let end = self
+            .last
+            .take()
+            .or_else(|| self.between.take_last().map(Bound::Excluded))?;
+        let start = self
+            .between
+            .take_last()
+            .map(Bound::Included)
+            .or_else(|| self.first.take())?;
         Some((start, end))
     }
 }
@@ -358,10 +312,4 @@ impl<T> Clone for PartsWithin<'_, T> {
     fn clone(&self) -> Self {
         PartsWithin { ..*self }
     }
-}
-
-fn take_first<'a, T>(items: &mut &'a [T]) -> Option<&'a T> {
-    let (first, others) = items.split_first()?;
-    *items = others;
-    Some(first)
 }

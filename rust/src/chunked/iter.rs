@@ -1,15 +1,14 @@
 //! The ranges of a set in chunks, one by one.
 
+use crate::any_range::{Boundaries, EndedParts};
 use crate::chunks::IntoItems;
 use crate::generated::range_chunks as proved;
 use crate::iter::{owned_ranges, ranges_by_value, shown, wraps};
 use crate::range::RangeSetRange;
 use core::fmt;
-use core::ops::Range;
 
 owned_ranges! {
-    Iter<'a, T> { RangeSetRange: |range| range.cloned() }
-    RangesWithin<'a, T> { Range: |range| range.start.clone()..range.end.clone() }
+    ['a, T] Iter<'a, T>: RangeSetRange<&'a T> => RangeSetRange<T>, |it| it.cloned(), of T;
 }
 
 wraps! {
@@ -18,7 +17,6 @@ wraps! {
 
 shown! {
     [T: fmt::Debug] Iter<'_, T>;
-    [T: fmt::Debug] RangesWithin<'_, T>;
 }
 
 /// An iterator over the ranges of a set in chunks, from the lowest on and from the highest down.
@@ -61,7 +59,8 @@ impl<'a, T> Iter<'a, T> {
 /// assert_eq!(free.next(), Some(&11..&13));
 /// assert_eq!(free.next(), None);
 /// ```
-pub use crate::generated::range_chunks::Gaps;
+pub type Gaps<'a, T> = RangesWithin<'a, T>;
+/// The parts of a range that are in a set in chunks or not, from both ends.
 /// [`ChunkedRangeSet::ranges_within`] makes it, and [`ChunkedRangeSet::gaps`].
 ///
 /// [`ChunkedRangeSet::gaps`]: crate::ChunkedRangeSet::gaps
@@ -77,7 +76,7 @@ pub use crate::generated::range_chunks::Gaps;
 /// assert_eq!(parts.next(), Some(&10..&11));
 /// assert_eq!(parts.next(), None);
 /// ```
-pub use crate::generated::range_chunks::RangesWithin;
+pub type RangesWithin<'a, T> = EndedParts<&'a T, Boundaries<'a, T>>;
 
 /// An iterator over the ranges of a set in chunks that was taken by value. `into_iter` makes it. It
 /// knows how many are left.

@@ -1,7 +1,6 @@
 //! Whole ranges taken out, or moved between two sets, and whole ranges that meet another.
 
 use super::{ChunkedRangeSet, Iter};
-use crate::any_range::Overlaps;
 use crate::chunks;
 use crate::forms::{ends, fails};
 use crate::generated::range_chunks as proved;
@@ -105,27 +104,8 @@ impl<T: Ord> ChunkedRangeSet<T> {
         above
     }
 
-    /// Returns an iterator over the ranges of the set that share a value with a range [of any
-    /// kind](Overlaps), from the lowest on. They aren't cut.
-    ///
-    /// # Examples
-    ///
-    /// ```
-    /// use range_sets::ChunkedRangeSet;
-    ///
-    /// let busy = ChunkedRangeSet::from_iter([9..11, 12..15, 20..30]);
-    /// let met: Vec<_> = busy.overlapping(10..13).collect();
-    /// assert_eq!(met, [(&9..&11).into(), (&12..&15).into()]);
-    /// ```
-    pub fn overlapping(&self, range: impl Overlaps<T>) -> Iter<'_, T> {
-        range.found(|range| match range {
-            RangeSetRange::Range(range) => Iter::of_proved(self.0.overlapping(range)),
-            RangeSetRange::RangeFrom(range) => self.overlapping_from(range.start),
-        })
-    }
-
     /// The ranges from the one that holds the value on, or else from the next one on.
-    fn overlapping_from(&self, value: &T) -> Iter<'_, T> {
+    pub(crate) fn overlapping_from(&self, value: &T) -> Iter<'_, T> {
         let list = &self.0.list;
         let above = list.up_to(value, &mut Comparisons::new());
         let from = if list.mark_at(above) {

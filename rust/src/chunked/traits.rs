@@ -1,7 +1,7 @@
 //! The traits of std that sets in chunks implement.
 
 use super::{ChunkedRangeSet, IntoIter, Iter};
-use crate::any_range::{IntoRange, NextValue};
+use crate::any_range::{each_range, IntoRange, NextValue};
 use crate::array::{Array, List};
 use crate::chunks;
 use crate::entry::RangeSetEntry;
@@ -16,7 +16,7 @@ use core::cmp::Ordering;
 use core::fmt;
 use core::hash::{Hash, Hasher};
 use core::ops::{
-    BitAnd, BitAndAssign, BitOr, BitOrAssign, BitXor, BitXorAssign, Not, Range, RangeFrom,
+    BitAnd, BitAndAssign, BitOr, BitOrAssign, BitXor, BitXorAssign, Bound, Not, Range, RangeFrom,
     RangeFull, RangeInclusive, RangeTo, RangeToInclusive, Sub, SubAssign,
 };
 use core::str::FromStr;
@@ -219,24 +219,21 @@ impl<T: Ord + Clone, A: Array<Item = T>> From<&ChunkedRangeSet<T>> for RangeSet<
 }
 
 macro_rules! from_ranges {
-    ($($range:ty $(, $bound:ident)* $(; $N:ident)?)*) => {$(
-        impl<T: Ord $(+ $bound)* $(, const $N: usize)?> From<$range> for ChunkedRangeSet<T> {
-            fn from(ranges: $range) -> Self {
-                RangeSet2::from(ranges).into()
+    ($($range:ty $(: $($bound:ident)+)?;)*) => {$(
+        impl<T: Ord $($(+ $bound)+)?> From<$range> for ChunkedRangeSet<T> {
+            fn from(range: $range) -> Self {
+                RangeSet2::from(range).into()
             }
         }
     )*};
 }
 
-from_ranges! {
-    Range<T>
-    RangeFrom<T>
-    RangeTo<T>, RangeSetEntry
-    RangeFull, RangeSetEntry
-    RangeInclusive<T>, NextValue
-    RangeToInclusive<T>, RangeSetEntry, NextValue
-    RangeSetRange<T>
-    [Range<T>; N]; N
+each_range!(from_ranges);
+
+impl<T: Ord, const N: usize> From<[Range<T>; N]> for ChunkedRangeSet<T> {
+    fn from(ranges: [Range<T>; N]) -> Self {
+        Self::from_ranges(ranges)
+    }
 }
 
 macro_rules! operators {
@@ -250,6 +247,12 @@ macro_rules! operators {
         impl<T: Ord + Clone, A: Array<Item = T>> $assigning<&RangeSet<A>> for ChunkedRangeSet<T> {
             fn $assign(&mut self, that: &RangeSet<A>) {
                 self.$with(that);
+            }
+        }
+
+        impl<T: Ord + Clone, A: Array<Item = T>> $assigning<RangeSet<A>> for ChunkedRangeSet<T> {
+            fn $assign(&mut self, that: RangeSet<A>) {
+                self.$with(&that);
             }
         }
 

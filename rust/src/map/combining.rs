@@ -8,9 +8,9 @@ mod by_clone;
 mod by_map_value;
 
 use super::forms::{as_it_is, both_maps, in_ok};
-use super::{Copies, Kept, Map};
-use crate::any_range::AnyRange;
-use crate::array::Array;
+use super::{AnyKeys, Copies, Kept, Map};
+use crate::any_range::{AnyRange, Overlaps};
+use crate::array::{Array, List, Sorting};
 use crate::fallible::{EntryClone, MapValue};
 use crate::forms::{ends, fails};
 use crate::generated::range_collections::Comparisons;
@@ -21,10 +21,10 @@ use crate::generated::range_map::{MapOperation, MapUpdate};
 use crate::generated::range_merge::Copier;
 use crate::memory::AllocError;
 use crate::range::RangeSetRange;
-use crate::range_set::RangeSetRef;
-use crate::support::Global;
+use crate::range_set::union_of_read;
+use crate::support::{Global, Vec};
 use core::cell::RefCell;
-use core::ops::{Range, RangeFrom};
+use core::ops::{Add, RangeFrom};
 
 /// An operation by a closure, which isn't called if both maps have no value.
 struct ByCall<F>(F);
@@ -106,25 +106,64 @@ impl<K: Ord, V: Eq, C: Copies<V>> Map<K, V, C> {
 
     pub(super) fn try_restrict(
         &self,
-        set: &RangeSetRef<K>,
+        keys: impl AnyKeys<K>,
         copier: &impl Copier<K>,
     ) -> Result<Self, AllocError> {
-        self.0.restrict_by(Global, set.proved(), copier).map(Map)
+        keys.viewed(copier, |set| {
+            self.0.restrict_by(Global, set.proved(), copier).map(Map)
+        })
     }
 
     fn try_remove_all(
         &mut self,
-        set: &RangeSetRef<K>,
+        keys: impl AnyKeys<K>,
         copier: &impl Copier<K>,
     ) -> Result<(), AllocError> {
-        self.0.remove_all_by(set.proved(), copier)
+        keys.viewed(copier, |set| self.0.remove_all_by(set.proved(), copier))
+    }
+
+    fn try_domain_where<L: List<Item = K>>(
+        &self,
+        mut keep: impl FnMut(&V) -> bool,
+        copier: &impl Copier<K>,
+        sorting: Sorting,
+    ) -> Result<L, AllocError> {
+        let mut kept = self.iter().filter(|(_, value)| keep(value));
+        let next = || {
+            let range = kept.next().map(|(range, _)| range.copied_by(copier));
+            range.transpose()
+        };
+        union_of_read(next, sorting)?
     }
 }
 
-impl<K: Ord, C> Map<K, usize, C> {
-    fn try_depth(ranges: &[Range<K>], copier: &impl Copier<K>) -> Result<Self, AllocError> {
-        let depth = depth_of(Global, ranges, copier)?;
-        Ok(Map::of_others(depth, Kept::new))
+impl<K: Ord, C: Copies<usize>> Map<K, usize, C> {
+    fn try_depth<R: Overlaps<K>>(
+        ranges: impl IntoIterator<Item = R>,
+        copier: &impl Copier<K>,
+    ) -> Result<Self, AllocError> {
+        let (mut ended, mut starts) = (Vec::new(Global), Vec::new(Global));
+        for range in ranges {
+            match range.found(|range| range.copied_by(copier))? {
+                RangeSetRange::Range(range) => ended.push(range)?,
+                RangeSetRange::RangeFrom(range) => starts.push(range.start)?,
+            }
+        }
+        let depth = depth_of(Global, ended.as_slice(), copier)?;
+        let depth = Map::of_others(depth, Kept::new);
+        if starts.is_empty() {
+            return Ok(depth);
+        }
+        // How many ranges without an end have each key.
+        starts.as_mut_slice().sort_unstable();
+        let mut endless = Self::new();
+        for (start, n) in starts.into_iter().zip(1..) {
+            endless.try_insert((start..).into(), n)?;
+        }
+        let sum = |a: Option<&usize>, b: Option<&usize>| {
+            Ok(a.into_iter().chain(b).copied().reduce(Add::add))
+        };
+        depth.try_combine(&endless, sum, copier)
     }
 }
 
@@ -285,8 +324,8 @@ macro_rules! operations {
                 $form::returned::<K, _, _>(put)
             }
 
-            /// Takes the values of the keys in a set away. It makes the ranges from the first member
-            /// on, up to the last, anew.
+            /// Takes the values of the keys in a set or a range [of any kind](AnyKeys) away. It makes
+            /// the ranges from the first of these keys on, up to the last, anew.
             ///
             #[doc = $errors!("If memory, or a copy of a key or of a value, is refused. The map is then \
                 as it was.")]
@@ -301,11 +340,12 @@ macro_rules! operations {
             /// assert_eq!(format!("{bookings:?}"), r#"{9..10: "Ada", 12..14: "Ada"}"#);
             #[doc = $end]
             /// ```
-            pub fn remove_all(&mut self, set: &RangeSetRef<K>) -> $form::Returned<()> {
-                $form::returned::<K, _, _>(self.try_remove_all(set, &$form::Copier))
+            pub fn remove_all(&mut self, keys: impl AnyKeys<K>) -> $form::Returned<()> {
+                $form::returned::<K, _, _>(self.try_remove_all(keys, &$form::Copier))
             }
 
-            /// Takes all values away but those of the keys in a set.
+            /// Takes all values away but those of the keys in a set or a range [of any
+            /// kind](AnyKeys).
             ///
             #[doc = $errors!("If memory, or a copy of a key or of a value, is refused. The map is then \
                 as it was.")]
@@ -320,12 +360,13 @@ macro_rules! operations {
             /// assert_eq!(format!("{bookings:?}"), r#"{12..14: "Ada"}"#);
             #[doc = $end]
             /// ```
-            pub fn retain_all(&mut self, set: &RangeSetRef<K>) -> $form::Returned<()> {
-                let kept = self.try_restrict(set, &$form::Copier);
+            pub fn retain_all(&mut self, keys: impl AnyKeys<K>) -> $form::Returned<()> {
+                let kept = self.try_restrict(keys, &$form::Copier);
                 $form::returned::<K, _, _>(kept.map(|map| *self = map))
             }
 
-            /// Returns the map with the values of the keys in a set alone.
+            /// Returns the map with the values of the keys in a set or a range [of any
+            /// kind](AnyKeys) alone.
             ///
             #[doc = $errors!("If memory, or a copy of a key or of a value, is refused.")]
             /// # Examples
@@ -336,15 +377,18 @@ macro_rules! operations {
             #[doc = concat!("let bookings = RangeMap::", $of_pairs, r#"([(9..14, "Ada")])"#, $ok)]
             #[doc = concat!("let hours = RangeSet2::", $from, "(12..20)", $ok)]
             #[doc = concat!("let day = bookings.restrict(&hours)", $ok)]
-            /// assert_eq!(format!("{day:?}"), r#"{12..14: "Ada"}"#);
+            #[doc = concat!("let part = bookings.restrict(12..)", $ok)]
+            /// assert_eq!((format!("{day:?}").as_str(), part), (r#"{12..14: "Ada"}"#, day));
             #[doc = $end]
             /// ```
+            #[doc(alias = "part")]
             #[$must_use]
-            pub fn restrict(&self, set: &RangeSetRef<K>) -> $form::Returned<Self> {
-                $form::returned::<K, _, _>(self.try_restrict(set, &$form::Copier))
+            pub fn restrict(&self, keys: impl AnyKeys<K>) -> $form::Returned<Self> {
+                $form::returned::<K, _, _>(self.try_restrict(keys, &$form::Copier))
             }
 
-            /// Returns the map with the values of the keys that aren't in a set.
+            /// Returns the map with the values of the keys that aren't in a set or a range [of any
+            /// kind](AnyKeys).
             ///
             #[doc = $errors!("If memory, or a copy of a key or of a value, is refused.")]
             /// # Examples
@@ -359,9 +403,9 @@ macro_rules! operations {
             #[doc = $end]
             /// ```
             #[$must_use]
-            pub fn without(&self, set: &RangeSetRef<K>) -> $form::Returned<Self> {
+            pub fn without(&self, keys: impl AnyKeys<K>) -> $form::Returned<Self> {
                 let rest = self.try_copy().and_then(|mut map| {
-                    map.try_remove_all(set, &$form::Copier)?;
+                    map.try_remove_all(keys, &$form::Copier)?;
                     Ok(map)
                 });
                 $form::returned::<K, _, _>(rest)
@@ -386,6 +430,56 @@ macro_rules! operations {
             pub fn domain<A: Array<Item = K>>(&self) -> $form::Returned<$form::RangeSet<A>> {
                 let list = self.try_domain::<A::List>();
                 $form::returned::<K, _, _>(list.map($form::RangeSet::of_list))
+            }
+
+            /// Returns the set of the keys whose value `keep` returns `true` for. It is called once for
+            /// each range, from the lowest on.
+            ///
+            #[doc = $errors!("If memory or a copy of a key is refused.")]
+            /// # Examples
+            ///
+            /// ```
+            #[doc = concat!("use ", $at, "::{RangeMap, RangeSet2};")]
+            ///
+            #[doc = concat!("let depth = RangeMap::depth([0..5, 3..9])", $ok)]
+            #[doc = concat!("let twice: RangeSet2<i32> = depth.domain_where(|n| *n > 1)", $ok)]
+            /// assert_eq!(twice.to_string(), "3..5");
+            #[doc = $end]
+            /// ```
+            #[$must_use]
+            pub fn domain_where<A: Array<Item = K>>(
+                &self,
+                keep: impl FnMut(&V) -> bool,
+            ) -> $form::Returned<$form::RangeSet<A>> {
+                let list = self.try_domain_where::<A::List>(keep, &$form::Copier, $form::SORTING);
+                $form::returned::<K, _, _>(list.map($form::RangeSet::of_list))
+            }
+
+            /// Returns the map that gives each key what `change` makes of its value. It is called once
+            /// for each range, from the lowest on. Ranges that touch and get equal values become one.
+            ///
+            #[doc = $errors!("If memory or a copy of a key is refused, or `change` returns an error.")]
+            /// # Examples
+            ///
+            /// ```
+            #[doc = concat!("use ", $at, "::RangeMap;")]
+            ///
+            #[doc = concat!("let nights = RangeMap::", $of_pairs, "([(1..4, 1), (4..7, 2)])", $ok)]
+            #[doc = concat!(
+                "let many = nights.map_values(|count| ", $returned!("*count > 1"), ")", $ok
+            )]
+            /// assert_eq!(format!("{many:?}"), "{1..4: false, 4..7: true}");
+            #[doc = $end]
+            /// ```
+            #[$must_use]
+            pub fn map_values<W: Eq>(
+                &self,
+                mut change: impl FnMut(&V) -> $form::Returned<W>,
+            ) -> $form::Returned<$form::RangeMap<K, W>> {
+                let op = |value: Option<&V>, _: Option<&V>| {
+                    value.map(|value| $form::tried(change(value))).transpose()
+                };
+                $form::returned::<K, _, _>(self.try_combine(&Self::new(), op, &$form::Copier))
             }
 
             /// Returns the set of the keys that have this value.
@@ -415,9 +509,10 @@ macro_rules! operations {
 
         impl<K: Ord + $Clone> $form::RangeMap<K, usize> {
             /// Returns the map that gives each key the number of the ranges that have it, if some
-            /// do. They may come in any order.
+            /// do. They may be [of any kind](Overlaps), as those that a set's `iter` yields, and come
+            /// in any order.
             ///
-            /// It takes *O*(*n* log *n*) time. `Range::try_from` makes a range of std of a set's.
+            /// It takes *O*(*n* log *n*) time, and memory for copies of all ends.
             ///
             #[doc = $errors!("If memory or a copy of a key is refused.")]
             /// # Examples
@@ -425,12 +520,15 @@ macro_rules! operations {
             /// ```
             #[doc = concat!("use ", $at, "::RangeMap;")]
             ///
-            #[doc = concat!("let depth = RangeMap::depth(&[0..5, 3..9, 4..6])", $ok)]
+            #[doc = concat!("let depth = RangeMap::depth([0..=4, 3..=8, 4..=5])", $ok)]
             /// assert_eq!(format!("{depth:?}"), "{0..3: 1, 3..4: 2, 4..5: 3, 5..6: 2, 6..9: 1}");
             #[doc = $end]
             /// ```
             #[$must_use]
-            pub fn depth(ranges: &[Range<K>]) -> $form::Returned<Self> {
+            pub fn depth<R>(ranges: impl IntoIterator<Item = R>) -> $form::Returned<Self>
+            where
+                R: Overlaps<K>,
+            {
                 $form::returned::<K, _, _>(Self::try_depth(ranges, &$form::Copier))
             }
         }

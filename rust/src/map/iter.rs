@@ -3,14 +3,16 @@
 use super::steps::IntoSteps;
 use super::{Kept, Map};
 use crate::generated::{range_collections, range_map as proved};
-use crate::iter::{owned_ranges, shown, wraps};
+use crate::iter::{cloned_range, owned_ranges, shown, wraps};
 use crate::range::RangeSetRange;
 use core::fmt;
 use core::iter::{FusedIterator, Peekable};
 use core::ops::Range;
 
 owned_ranges! {
-    Gaps<'a, K, V, C> { Range: |range| range.start.clone()..range.end.clone() }
+    ['a, K, V, C] Iter<'a, K, V, C>: (RangeSetRange<&'a K>, &'a V) => (RangeSetRange<K>, V),
+        |(range, value)| (range.cloned(), value.clone()), of K V;
+    ['a, K, V, C] Gaps<'a, K, V, C>: Range<&'a K> => Range<K>, cloned_range, of K;
 }
 
 wraps! {
@@ -36,6 +38,7 @@ shown! {
 /// assert_eq!(ranges.next_back(), Some(((&11..&14).into(), &"Bob")));
 /// assert_eq!(ranges.next(), Some(((&9..&11).into(), &"Ada")));
 /// assert_eq!(ranges.next(), None);
+/// assert_eq!(bookings.iter().copied().next(), Some(((9..11).into(), "Ada")));
 /// ```
 #[must_use = "iterators are lazy and do nothing unless consumed"]
 pub struct Iter<'a, K, V, C>(proved::Iter<'a, K, Kept<V, C>>);

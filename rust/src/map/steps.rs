@@ -57,6 +57,19 @@ impl<'a, K, V, C> Iterator for Changes<'a, K, V, C> {
     }
 }
 
+impl<'a, K, V, C> DoubleEndedIterator for Changes<'a, K, V, C> {
+    fn next_back(&mut self) -> Option<&'a K> {
+        loop {
+            let step = self.steps.take_last()?;
+            let before = self.steps.clone().take_last();
+            let had_value = before.map_or(self.has_value, |it| it.option.is_some());
+            if step.option.is_some() != had_value {
+                return Some(&step.key);
+            }
+        }
+    }
+}
+
 impl<K, V, C> Clone for Changes<'_, K, V, C> {
     fn clone(&self) -> Self {
         let steps = self.steps.clone();

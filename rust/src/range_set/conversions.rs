@@ -7,7 +7,7 @@ use crate::fallible::{self, AllocError};
 use crate::memory::expect_memory;
 use crate::range::RangeSetRange;
 use crate::range_set::RangeSet;
-use core::ops::{Range, RangeFrom, RangeFull, RangeInclusive, RangeTo, RangeToInclusive};
+use core::ops::{Bound, Range, RangeFrom, RangeFull, RangeInclusive, RangeTo, RangeToInclusive};
 
 /// A set of each kind of range: by `from`, and for a set of `fallible` by `try_from`.
 macro_rules! from_ranges {
@@ -43,6 +43,8 @@ from_ranges! {
     RangeInclusive<T>: NextValue => |range| A::List::of_range(range.into());
     /// The values up to the last one.
     RangeToInclusive<T>: RangeSetEntry NextValue => |range| A::List::of_range(range.into());
+    /// The values between the bounds: none if they are empty or reversed.
+    (Bound<T>, Bound<T>): RangeSetEntry NextValue => |range| A::List::of_range(range.into());
     /// The values of the range: none if it is empty or reversed.
     RangeSetRange<T> => |range| A::List::of_range(range);
     /// All values for `true`, none for `false`.

@@ -2,6 +2,7 @@
 //! either.
 
 use crate::array::{Array, List};
+use crate::chunked::ChunkedRangeSet;
 use crate::entry::RangeSetEntry;
 use crate::generated::range_merge::{DiffOp, IntersectionOp, UnionOp, XorOp};
 use crate::memory::expect_memory;
@@ -70,7 +71,18 @@ macro_rules! assigning_operators {
                 self.$with(that);
             }
         }
+
+        assigning_operators!(@ $operator $call: ChunkedRangeSet<T>);
+        assigning_operators!(@ $operator $call: &ChunkedRangeSet<T>);
     )*};
+    (@ $operator:ident $call:ident: $chunked:ty) => {
+        /// The right set is taken into one list.
+        impl<T: Ord + Clone, A: Array<Item = T>> $operator<$chunked> for RangeSet<A> {
+            fn $call(&mut self, that: $chunked) {
+                self.$call(Self::from(that));
+            }
+        }
+    };
 }
 
 assigning_operators! {

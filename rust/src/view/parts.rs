@@ -1,6 +1,5 @@
 //! The ranges of a set, and what of it lies before, within or after something.
 
-use crate::any_range::Overlaps;
 use crate::generated::range_collections::Comparisons;
 use crate::generated::range_merge::count_up_to;
 use crate::iter::Iter;
@@ -64,30 +63,11 @@ impl<T: Ord> RangeSetRef<T> {
         (Self::of_proved(left), Self::of_proved(right))
     }
 
-    /// Returns an iterator over the ranges of the set that share a value with a range [of any
-    /// kind](Overlaps), from the lowest on. They aren't cut.
-    ///
-    /// It makes *O*(log *n*) comparisons, and none for a step.
-    ///
-    /// # Examples
-    ///
-    /// ```
-    /// use range_sets::RangeSetRef;
-    ///
-    /// let busy = RangeSetRef::new(&[9, 11, 12, 15, 20]).unwrap();
-    /// let met: Vec<_> = busy.overlapping(10..13).collect();
-    /// assert_eq!(met, [(&9..&11).into(), (&12..&15).into()]);
-    /// ```
-    pub fn overlapping(&self, range: impl Overlaps<T>) -> Iter<'_, T> {
-        range.found(|range| match range {
-            RangeSetRange::Range(range) => Iter::of_proved(self.proved().overlapping(range)),
-            RangeSetRange::RangeFrom(range) => {
-                let items = self.boundaries();
-                let from = count_up_to(items, range.start, &mut Comparisons::new());
-                // From the start of the range that holds it, if one does.
-                Iter::new(&items[from - from % 2..])
-            }
-        })
+    /// The ranges from the one that holds the value on, or else from the next one on.
+    pub(crate) fn overlapping_from(&self, value: &T) -> Iter<'_, T> {
+        let items = self.boundaries();
+        let from = count_up_to(items, value, &mut Comparisons::new());
+        Iter::new(&items[from - from % 2..])
     }
 }
 

@@ -32,6 +32,9 @@ fn one_search() {
         it.prev_gap(&from);
         it.rank(&from);
         it.contains_range(from..);
+        it.gaps(&from..).count();
+        it.gaps(from..).count();
+        it.ranges_within(from..).count();
         it.intersects_range(from..);
         it.insert(from..);
         it.remove(from..);
@@ -54,6 +57,8 @@ fn two_searches() {
         it.overlapping(&from..&to).count();
         it.overlapping(from..).count();
         it.gaps(&from..&to).count();
+        it.gaps(from..to).count();
+        it.ranges_within(from..to).count();
         it.ranges_within(&from..&to).count();
         it.first_fit_aligned(from..to, 6, 4);
         it.first_run(from..to, 6);
@@ -70,18 +75,6 @@ fn two_searches() {
         it.remove_changed(from..to);
         space(it).insert_changed(from..to);
         space(it).remove_changed(from..to);
-    }
-}
-
-/// After one search the ends of each part are compared with the range's.
-#[test]
-fn parts_by_value() {
-    let (set, search) = many();
-    each! { &set, RANGES, search + 1 + 2 * 4; |it, from, to|
-        it.gaps(from..to).take(4).count();
-        it.gaps(from..).take(4).count();
-        it.ranges_within(from..to).take(4).count();
-        it.ranges_within(from..).take(4).count();
     }
 }
 

@@ -27,6 +27,9 @@ fn one_search() {
         it.contains_key(&from);
         it.get_key_value(&from);
         it.is_free(from..);
+        it.gaps(&from..).count();
+        it.gaps(from..).count();
+        it.next_gap(&from);
         it.insert(from.., 7);
         it.remove(from..);
     }
@@ -44,20 +47,11 @@ fn two_searches() {
         it.overlapping(&from..&to).count();
         it.overlapping(from..).count();
         it.gaps(&from..&to).count();
+        it.gaps(from..to).count();
+        it.gaps(..to).count();
         it.insert_free(from.., 7);
         it.pop_first();
         it.pop_last();
-    }
-}
-
-/// After one search the ends of each part are compared with the range's.
-#[test]
-fn parts_by_value() {
-    let (map, search) = many();
-    each! { &map, RANGES, search + 1 + 2 * 4; |it, from, to|
-        it.gaps(from..to).take(4).count();
-        it.gaps(from..).take(4).count();
-        it.gaps(..to).take(4).count();
     }
 }
 

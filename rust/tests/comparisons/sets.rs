@@ -33,6 +33,8 @@ fn one_search() {
         it.intersects_range(from..);
         it.overlapping(from..).count();
         it.gaps(&from..).count();
+        it.gaps(from..).count();
+        it.ranges_within(from..).count();
         it.gaps(..&to).count();
         it.gaps(..=&to).count();
         it.ranges_within(&from..).count();
@@ -72,6 +74,8 @@ fn two_searches() {
     each! { &set, RANGES, 2 * search + 1; |it, from, to|
         it.overlapping(&from..&to).count();
         it.gaps(&from..&to).count();
+        it.gaps(from..to).count();
+        it.ranges_within(from..to).count();
         it.gaps(&from..=&to).count();
         it.ranges_within(&from..&to).count();
         it.ranges_within(&from..=&to).count();
@@ -104,18 +108,6 @@ fn ranges_without_an_end() {
     }
     each! { &set, RANGES, 2 * merge; |it, from, to|
         it.split_off(&from);
-    }
-}
-
-/// After one search the ends of each part are compared with the range's.
-#[test]
-fn parts_by_value() {
-    let (set, search) = many();
-    each! { &set, RANGES, search + 1 + 2 * 4; |it, from, to|
-        it.gaps(from..to).take(4).count();
-        it.gaps(from..).take(4).count();
-        it.ranges_within(from..to).take(4).count();
-        it.ranges_within(from..).take(4).count();
     }
 }
 

@@ -60,6 +60,8 @@ macro_rules! questions {
                 next_gap => a.next_gap(&12);
                 prev_member => a.prev_member(&12);
                 prev_gap => a.prev_gap(&12);
+                last_member => a.last_member();
+                last_fit => a.last_fit(0..99, 3);
                 first => a.first();
                 last => a.last();
                 span => a.span();
@@ -272,6 +274,10 @@ fn map_calls() -> Vec<Row<Map>> {
             iter => a.iter().chain(b.iter().rev()).count();
             overlapping => (a.overlapping(..=99).count(), a.overlapping(&9..).count());
             gaps => (a.gaps(0..99).count(), a.gaps(&0..&99).count(), a.gaps(..).count());
+            ranges_within => (a.ranges_within(..=99).count(), a.ranges_within(9..).rev().count());
+            covered => a.covered();
+            next_gap => a.next_gap(&12);
+            first_fit => a.first_fit(0..99, 3);
             first => a.first();
             last => a.last();
             span => a.span();
@@ -303,11 +309,13 @@ fn map_calls() -> Vec<Row<Map>> {
             insert_where_free => a.insert_where_free(b);
             remove_all => a.remove_all(RangeSetRef::new(&[12, 40]).unwrap());
             retain_all => a.retain_all(RangeSetRef::new(&[12, 40]).unwrap());
-            restrict => a.restrict(RangeSetRef::new(&[12, 40]).unwrap());
+            restrict => a.restrict(12..=40);
             without => a.without(RangeSetRef::new(&[12, 40]).unwrap());
             domain => a.domain::<[u32; 2]>();
+            domain_where => a.domain_where::<[u32; 2]>(|value| value.starts_with('1'));
+            map_values => a.map_values(|value| Ok(value.len()));
             where_equal => a.where_equal::<[u32; 2]>(&text(1));
-            depth => RangeMap::depth(&[0..5, 3..9u32]);
+            depth => RangeMap::depth([0..=5, 3..=8, 7..=u32::MAX]);
         }
     }
 }

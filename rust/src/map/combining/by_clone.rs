@@ -11,12 +11,10 @@ impl<K: Ord + Clone, V: Eq + Clone> RangeMap<K, V> {
     }
 
     pub(super) fn try_domain<L: List<Item = K>>(&self) -> Result<L, AllocError> {
-        let ranges = self.keys().map(|range| range.cloned());
-        L::of_ranges(ranges, ends::SORTING)
+        self.try_domain_where(|_| true, &ends::Copier, ends::SORTING)
     }
 
     pub(super) fn try_where_equal<L: List<Item = K>>(&self, value: &V) -> Result<L, AllocError> {
-        let equal = self.iter().filter(|(_, it)| *it == value);
-        L::of_ranges(equal.map(|(range, _)| range.cloned()), ends::SORTING)
+        self.try_domain_where(|it| it == value, &ends::Copier, ends::SORTING)
     }
 }
