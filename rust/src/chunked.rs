@@ -2,12 +2,14 @@
 
 mod changes;
 mod combining;
+mod cursor;
 mod iter;
 mod members;
 mod taking;
 mod traits;
 
 pub use crate::relations::AnySet;
+pub use cursor::Cursor;
 pub use iter::{Gaps, IntoIter, Iter, RangesWithin};
 pub use members::Members;
 

@@ -81,6 +81,73 @@ macro_rules! owned_ranges {
     )*};
 }
 
+/// Gives an iterator over ranges of a set `rev` and `filter` whose iterators have `copied` too.
+macro_rules! adapted_ranges {
+    ($([$($generics:tt)*] $iter:ty;)*) => {$(
+        impl<$($generics)*> $iter {
+            /// Reverses the order, as [`Iterator::rev`] does. The ranges can be copied.
+            pub fn rev(self) -> Ranges<core::iter::Rev<Self>>
+            where
+                Self: DoubleEndedIterator,
+            {
+                Ranges(Iterator::rev(self))
+            }
+
+            /// Keeps the ranges for which `keep` returns `true`, as [`Iterator::filter`] does. They
+            /// can be copied.
+            pub fn filter<P>(self, keep: P) -> Ranges<core::iter::Filter<Self, P>>
+            where
+                P: FnMut(&RangeSetRange<&'a T>) -> bool,
+            {
+                Ranges(Iterator::filter(self, keep))
+            }
+        }
+    )*};
+}
+
+/// Ranges of a set between references that `rev` or `filter` of its iterator leave.
+///
+/// # Examples
+///
+/// ```
+/// use range_sets::RangeSet2;
+///
+/// let busy = RangeSet2::from([9..11, 12..15, 20..24]);
+/// let long = busy.iter().rev().filter(|range| range.len() > Some(2)).copied();
+/// assert!(long.eq([(20..24).into(), (12..15).into()]));
+/// ```
+#[derive(Clone, Debug)]
+#[must_use = "iterators are lazy and do nothing unless consumed"]
+pub struct Ranges<I>(pub(crate) I);
+
+impl<I: Iterator> Iterator for Ranges<I> {
+    type Item = I::Item;
+
+    #[inline]
+    fn next(&mut self) -> Option<I::Item> {
+        self.0.next()
+    }
+
+    #[inline]
+    fn size_hint(&self) -> (usize, Option<usize>) {
+        self.0.size_hint()
+    }
+}
+
+impl<I: DoubleEndedIterator> DoubleEndedIterator for Ranges<I> {
+    #[inline]
+    fn next_back(&mut self) -> Option<I::Item> {
+        self.0.next_back()
+    }
+}
+
+impl<I: ExactSizeIterator> ExactSizeIterator for Ranges<I> {}
+
+adapted_ranges! {
+    ['a, T] Iter<'a, T>;
+    ['a, T: 'a, I: Iterator<Item = RangeSetRange<&'a T>>] Ranges<I>;
+}
+
 /// Has `Debug` show the items that an iterator still has.
 macro_rules! shown {
     ($([$($generics:tt)*] $iter:ty;)*) => {$(
@@ -163,10 +230,12 @@ macro_rules! ranges_by_value {
     };
 }
 
-pub(crate) use {owned_ranges, ranges_by_value, shown, wraps};
+pub(crate) use {adapted_ranges, owned_ranges, ranges_by_value, shown, wraps};
 
 owned_ranges! {
     ['a, T] Iter<'a, T>: RangeSetRange<&'a T> => RangeSetRange<T>, |it| it.cloned(), of T;
+    ['a, T: 'a, I: Iterator<Item = RangeSetRange<&'a T>>] Ranges<I>:
+        RangeSetRange<&'a T> => RangeSetRange<T>, |it| it.cloned(), of T;
 }
 
 /// The range between clones of both ends.

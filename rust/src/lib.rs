@@ -144,7 +144,7 @@ pub use generated::range_collections::Unsigned;
 /// assert_eq!(u8::read("700"), None);
 /// ```
 pub use generated::range_collections::WholeNumber;
-pub use iter::{Gaps, IntoIter, Iter, Members, RangesWithin};
+pub use iter::{Gaps, IntoIter, Iter, Members, Ranges, RangesWithin};
 pub use map::RangeMap;
 pub use multirange::MultirangeError;
 pub use operation::{Connective, NoRoom};

@@ -9,6 +9,7 @@ use crate::memory::AllocError;
 use crate::text::padded;
 use core::cmp::Ordering;
 use core::fmt;
+use core::iter;
 use core::ops::{
     Bound, Range, RangeBounds, RangeFrom, RangeFull, RangeInclusive, RangeTo, RangeToInclusive,
 };
@@ -261,6 +262,32 @@ impl<T> RangeSetRange<T> {
             Self::RangeFrom(range) => proved::RangeSetRange::RangeFrom(range),
         }
     }
+}
+
+/// The ranges of values, where those that come one after the other are in one.
+pub(crate) fn runs<T: FromPlace>(
+    mut values: impl Iterator<Item = T>,
+) -> impl Iterator<Item = RangeSetRange<T>> {
+    let mut run: Option<RangeSetRange<T>> = None;
+    iter::from_fn(move || {
+        for value in values.by_ref() {
+            let range = RangeSetRange::of_value(value);
+            let before = match run.take() {
+                Some(before) if before.end() != Some(range.start()) => Some(before),
+                Some(before) => {
+                    let (start, _) = before.into_ends();
+                    run = Some(RangeSetRange::of_ends(start, range.into_ends().1));
+                    continue;
+                }
+                None => None,
+            };
+            run = Some(range);
+            if before.is_some() {
+                return before;
+            }
+        }
+        run.take()
+    })
 }
 
 /// An end whose values are counted: a value, or a reference to one. The compiler finds the type `U`

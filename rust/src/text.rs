@@ -32,6 +32,7 @@ pub use crate::generated::range_collections::ParseError;
 /// |---|---|
 /// | a [`WholeNumber`] | `0..10, 20..` |
 /// | `char` | `'a'..'z'`, as in Rust: `'\''..'\u{e000}'` |
+/// | `Duration` | `1.5s..2s, 3s..`: a number of `s`, `ms`, `µs` or `ns` |
 /// | `Ipv4Addr`, `Ipv6Addr`, with the feature `std` | `10.0.0.0..10.1.0.0`, `2001:db8::..` |
 ///
 /// It is implemented for these, and for nothing else. The text of whole numbers is proved, the
@@ -42,6 +43,7 @@ pub use crate::generated::range_collections::ParseError;
 /// ```
 /// use range_sets::RangeSet2;
 /// use std::net::Ipv4Addr;
+/// use std::time::Duration;
 ///
 /// let digits: RangeSet2<char> = "'0'..':', 'a'..'g'".parse()?;
 /// assert!(digits.contains(&'f'));
@@ -49,6 +51,9 @@ pub use crate::generated::range_collections::ParseError;
 ///
 /// let free: RangeSet2<Ipv4Addr> = "10.0.0.0..10.1.0.0".parse()?;
 /// assert_eq!(free.to_string(), "10.0.0.0..10.1.0.0");
+///
+/// let played: RangeSet2<Duration> = "0s..2.5s, 1500ms..4s".parse()?;
+/// assert_eq!(played.to_string(), "0ns..4s");
 /// # Ok::<(), range_sets::ParseError>(())
 /// ```
 pub trait TextEntry: Ord + fmt::Debug + Sized {

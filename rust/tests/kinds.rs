@@ -1,11 +1,17 @@
 //! Ranges of every kind that std has, between values and between references, wherever a call takes
 //! one.
 
+mod common;
+
+use common::Random;
 use range_sets::tracker::{ChunkedTracker, Tracker};
-use range_sets::{ChunkedRangeSet, ChunkedSpace, RangeMap, RangeSet2, RangeSetRange, RangeSetRef};
+use range_sets::{
+    ChunkedRangeSet, ChunkedSpace, Connective, RangeMap, RangeSet2, RangeSetRange, RangeSetRef,
+};
 use std::fmt::Debug;
 use std::iter::once;
-use std::ops::{Bound, Range, RangeBounds};
+use std::ops::{Bound, Range, RangeBounds, RangeInclusive};
+use std::rc::Rc;
 
 type Part = RangeSetRange<u8>;
 
@@ -390,6 +396,147 @@ fn offsets_of_trackers() {
     assert!(large.gaps(u64::MAX - 3..u64::MAX).next().is_none());
     let empty = ChunkedTracker::new(8).unwrap();
     assert!(empty.gaps(7..).eq([(7..).into()]));
+}
+
+/// Sets of both kinds on both sides, and behind pointers.
+#[test]
+fn sets_of_either_kind_on_both_sides() {
+    let sets = sets();
+    let lists: Vec<RangeSet2<u8>> = sets
+        .iter()
+        .map(|it| RangeSetRef::new(it).unwrap().into())
+        .collect();
+    for (a, b) in lists
+        .iter()
+        .step_by(5)
+        .flat_map(|a| lists.iter().map(move |b| (a, b)))
+    {
+        let (c, d) = (
+            ChunkedRangeSet::from(a.clone()),
+            ChunkedRangeSet::from(b.clone()),
+        );
+        macro_rules! alike {
+            ($($call:ident($($op:expr)?) = $wanted:expr;)*) => {$({
+                let wanted = $wanted;
+                assert_eq!(a.$call(b $(, $op)?), wanted);
+                assert_eq!(a.$call(&d $(, $op)?), wanted, "{a} and {b}");
+                assert_eq!(c.$call(b $(, $op)?), wanted);
+                assert_eq!(c.$call(&d $(, $op)?), wanted);
+                assert_eq!(c.$call(&Box::new(&**b) $(, $op)?), wanted);
+                assert_eq!(a.$call(&mut Rc::new(ChunkedSpace::from(d.clone())) $(, $op)?), wanted);
+            })*};
+        }
+        alike! {
+            intersects() = !(a & b).is_empty();
+            is_disjoint() = (a & b).is_empty();
+            is_subset() = (a - b).is_empty();
+            is_superset() = (b - a).is_empty();
+        }
+        for op in [
+            Connective::UNION,
+            Connective::INTERSECTION,
+            Connective::DIFFERENCE,
+            Connective::SYMMETRIC_DIFFERENCE,
+        ] {
+            let made: RangeSet2<u8> = a.combine(b, op);
+            alike! {
+                merge_test(op) = !made.is_empty();
+                merge_len(op) = made.boundaries().len();
+            }
+        }
+        macro_rules! assigned {
+            ($($sign:tt $assign:tt)*) => {$({
+                let wanted = a $sign b;
+                let (mut with, mut moved) = (a.clone(), a.clone());
+                with $assign &d;
+                moved $assign d.clone();
+                assert_eq!((&with, &moved), (&wanted, &wanted));
+                let (mut with, mut moved) = (c.clone(), c.clone());
+                with $assign b;
+                moved $assign b.clone();
+                assert!(wanted == with && wanted == moved);
+                assert!(wanted == c.clone() $sign b.clone());
+            })*};
+        }
+        assigned!(| |= & &= - -= ^ ^=);
+    }
+}
+
+#[test]
+fn a_cursor_in_chunks() {
+    let mut random = Random(91);
+    let many = ChunkedRangeSet::from_ranges((0..3000u32).map(|i| 7 * i..7 * i + 1 + i % 6));
+    let mut cursor = many.cursor();
+    let mut value = 0;
+    for turn in 0..20_000 {
+        value = match turn % 50 {
+            0 => random.below(22_000) as u32,
+            1 => value.saturating_sub(9),
+            _ => value + random.below(5) as u32,
+        };
+        assert_eq!(cursor.contains(&value), many.contains(&value), "{value}");
+        assert_eq!(
+            cursor.clone().contains(&(value / 2)),
+            many.contains(&(value / 2))
+        );
+    }
+    assert!(!ChunkedRangeSet::<u8>::new().cursor().contains(&7));
+}
+
+#[test]
+fn ranges_that_are_turned_or_left_out_are_copied() {
+    for boundaries in sets() {
+        let view = RangeSetRef::new(&boundaries).unwrap();
+        let chunked = ChunkedRangeSet::from(view);
+        let mut all: Vec<Part> = view.iter().copied().collect();
+        assert_eq!(chunked.last_member(), view.last_member());
+        assert_eq!(
+            view.last_member(),
+            (0..=255).rfind(|value| view.contains(value))
+        );
+        for part in all.clone() {
+            let inclusive = RangeInclusive::try_from(part.clone()).unwrap();
+            assert!((0..=255).all(|value| inclusive.contains(&value) == part.contains(&value)));
+            assert_eq!(Part::from(inclusive), part);
+        }
+        all.reverse();
+        assert!(view.iter().rev().copied().eq(all.clone()));
+        assert!(chunked.iter().rev().cloned().eq(all.clone()));
+        assert_eq!(view.iter().rev().len(), all.len());
+        all.retain(|part| part.contains(&2));
+        assert!(view
+            .iter()
+            .filter(|part| part.contains(&2))
+            .copied()
+            .eq(all.clone()));
+        assert!(chunked
+            .iter()
+            .rev()
+            .filter(|part| part.contains(&2))
+            .rev()
+            .copied()
+            .eq(all));
+    }
+}
+
+#[test]
+fn values_one_after_the_other() {
+    let mut random = Random(92);
+    for n in 0..300 {
+        let step = 1 + random.below(3);
+        let values: Vec<u8> = (0..n)
+            .scan(random.below(256), |at, _| {
+                *at += random.below(step + 1);
+                Some(*at as u8)
+            })
+            .collect();
+        let set = RangeSet2::from_values(values.iter().copied());
+        assert!((0..=255).all(|value| set.contains(&value) == values.contains(&value)));
+        assert_eq!(
+            set,
+            RangeSet2::from_ranges(values.iter().map(|&value| value..=value))
+        );
+    }
 }
 
 /// What a reader writes first, with the type that it gives.

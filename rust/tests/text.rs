@@ -8,6 +8,7 @@ use std::collections::HashSet;
 use std::iter::once;
 #[cfg(feature = "std")]
 use std::net::{Ipv4Addr, Ipv6Addr};
+use std::time::Duration;
 
 #[test]
 fn debug_text_is_made_of_the_elements_own() {
@@ -265,4 +266,38 @@ fn errors_are_errors() {
         "the result has 4 boundaries, and the slice has no room for them"
     );
     assert_eq!(fallible::AllocError.to_string(), "memory allocation failed");
+}
+
+#[test]
+fn texts_of_durations() {
+    for (text, written) in [
+        ("", ""),
+        ("0s..1s", "0ns..1s"),
+        ("1.5s..2s,3s..", "1.5s..2s, 3s.."),
+        ("1500ms..2000000µs", "1.5s..2s"),
+        ("7ns..7.25µs", "7ns..7.25µs"),
+        ("0.000000001s..1.000001ms", "1ns..1.000001ms"),
+        ("2s..1s", ""),
+    ] {
+        let set: RangeSet2<Duration> = text.parse().unwrap();
+        assert_eq!(set.to_string(), written, "{text}");
+        assert_eq!(written.parse(), Ok(set));
+    }
+    let ends = [0, 1, 999, 1_000, 123_456_789, 10_000_000_007, u64::MAX];
+    let ends = ends.map(Duration::from_nanos);
+    let set = RangeSet2::from_unsorted(ends.into_iter().chain(once(Duration::MAX)));
+    assert_eq!(set.to_string().parse(), Ok(set));
+    for (text, at, expected) in [
+        ("1..2s", 0, Expected::Number),
+        ("1.5ns..", 0, Expected::Number),
+        ("0.0000000001s..", 0, Expected::Number),
+        ("18446744073709551616s..", 0, Expected::Number),
+        ("1s..2", 4, Expected::Number),
+        ("1s..2m", 4, Expected::Number),
+        ("1s.2s", 3, Expected::Dot),
+        ("1s..2s;", 6, Expected::Comma),
+    ] {
+        let error = text.parse::<RangeSet2<Duration>>().unwrap_err();
+        assert_eq!(error, ParseError::Malformed { at, expected }, "{text}");
+    }
 }

@@ -3,7 +3,7 @@
 use crate::any_range::{Boundaries, EndedParts};
 use crate::chunks::IntoItems;
 use crate::generated::range_chunks as proved;
-use crate::iter::{owned_ranges, ranges_by_value, shown, wraps};
+use crate::iter::{adapted_ranges, owned_ranges, ranges_by_value, shown, wraps, Ranges};
 use crate::range::RangeSetRange;
 use core::fmt;
 
@@ -13,6 +13,10 @@ owned_ranges! {
 
 wraps! {
     ['a, T] Iter<'a, T>: RangeSetRange<&'a T> = RangeSetRange::from_proved;
+}
+
+adapted_ranges! {
+    ['a, T] Iter<'a, T>;
 }
 
 shown! {

@@ -1,12 +1,13 @@
-//! The texts of characters and addresses, which are no numbers.
+//! The texts of characters, durations and addresses, which are no numbers.
 
 use super::{Expected, ParseError, TextEntry};
 use crate::array::{Array, Sorting};
-use crate::generated::range_collections::EntryClone;
+use crate::generated::range_collections::{EntryClone, FromPlace};
 use crate::range::RangeSetRange;
 use crate::range_set::union_of_read;
 #[cfg(feature = "std")]
 use core::str::FromStr;
+use core::time::Duration;
 #[cfg(feature = "std")]
 use std::net::{Ipv4Addr, Ipv6Addr};
 
@@ -27,6 +28,8 @@ macro_rules! texts {
 texts! {
     /// As in Rust: between single quotes, with its escapes.
     char by quoted;
+    /// As its own `Debug`.
+    Duration by duration;
     /// As its own `Display`.
     #[cfg(feature = "std")]
     #[cfg_attr(docsrs, doc(cfg(feature = "std")))]
@@ -115,6 +118,30 @@ fn escaped(text: &str) -> Option<(char, &str)> {
         _ => return None,
     };
     Some((c, chars.as_str()))
+}
+
+/// A number with a unit, as `1.5s`.
+fn duration(text: &str) -> Option<(Duration, &str)> {
+    let digits = |text: &str| text.bytes().take_while(u8::is_ascii_digit).count();
+    let (whole, mut rest) = text.split_at(digits(text));
+    let mut fraction = "";
+    if let Some(after) = rest.strip_prefix('.').filter(|after| digits(after) > 0) {
+        (fraction, rest) = after.split_at(digits(after));
+    }
+    let units = [("ns", 0u32), ("µs", 3), ("ms", 6), ("s", 9)].into_iter();
+    let mut units = units.filter_map(|(unit, places)| Some((rest.strip_prefix(unit)?, places)));
+    let (rest, places) = units.next()?;
+    // So many zeros make nanoseconds of the fraction.
+    let zeros = places.checked_sub(u32::try_from(fraction.len()).ok()?)?;
+    let parts = match fraction {
+        "" => 0,
+        _ => fraction.parse::<u128>().ok()? * 10u128.pow(zeros),
+    };
+    let nanos = whole
+        .parse::<u128>()
+        .ok()?
+        .checked_mul(10u128.pow(places))?;
+    Some((Duration::from_place(nanos.checked_add(parts)?)?, rest))
 }
 
 /// An address up to two dots, a comma, white space or the end.

@@ -4,7 +4,7 @@ use crate::common::{one_in, Random};
 use crate::{any_range, has, read, stretches, Cells, KEYS};
 use range_sets::{fallible, RangeMap, RangeSet2, RangeSetRange, RangeSetRef};
 use std::cell::{Cell, RefCell};
-use std::ops::Range;
+use std::ops::{Range, RangeInclusive};
 
 /// A map of a few ranges, and its cells.
 fn some(random: &mut Random) -> (RangeMap<u8, u8>, Cells) {
@@ -28,18 +28,32 @@ fn keys_of(set: &RangeSetRef<u8>) -> Vec<u8> {
 fn depths() {
     for seed in (1..2_000u64).step_by(one_in()) {
         let mut random = Random(seed.wrapping_mul(0x9e37_79b9_7f4a_7c15) | 1);
-        let end = |random: &mut Random| random.below(KEYS as u64 - 1) as u8;
-        let ranges: Vec<Range<u8>> = (0..random.below(30))
-            .map(|_| end(&mut random)..end(&mut random))
+        let ranges: Vec<RangeSetRange<u8>> = (0..random.below(30))
+            .map(|_| any_range(&mut random))
             .collect();
         let cells: Cells = std::array::from_fn(|key| {
-            let depth = ranges.iter().filter(|range| range.contains(&(key as u8)));
+            let depth = ranges.iter().filter(|range| has(range, key as u8));
             Some(depth.count() as u8).filter(|&depth| depth > 0)
         });
-        let depth = RangeMap::depth(&ranges);
+        let depth = RangeMap::depth(ranges.iter().map(RangeSetRange::as_ref));
         let found = depth.iter().map(|(range, &n)| (range.cloned(), n as u8));
         assert_eq!(found.collect::<Vec<_>>(), stretches(&cells), "{ranges:?}");
-        assert_eq!(fallible::RangeMap::depth(&ranges).unwrap(), depth.into());
+        let ended = ranges
+            .iter()
+            .cloned()
+            .map(|range| Range::try_from(range).unwrap_or(0..0));
+        let mut ended: Vec<Range<u8>> = ended.collect();
+        let of_ended = RangeMap::depth(&ended);
+        assert_eq!(RangeMap::depth(&mut ended), of_ended);
+        let inclusive = ended
+            .into_iter()
+            .map(RangeSetRange::from)
+            .filter(|range| !range.is_empty());
+        assert_eq!(
+            RangeMap::depth(inclusive.map(|range| RangeInclusive::try_from(range).unwrap())),
+            of_ended
+        );
+        assert_eq!(fallible::RangeMap::depth(ranges).unwrap(), depth.into());
     }
 }
 
@@ -72,6 +86,20 @@ fn operations_key_by_key() {
         };
         assert_eq!(keys_of(&domain), keys(&|value| value.is_some()));
         assert_eq!(keys_of(&ones), keys(&|value| value == Some(1)));
+        let others: RangeSet2<u8> = b.domain_where(|value| *value != 1);
+        assert_eq!(others, &domain - &ones);
+        let made = a.map_values(|value| value / 2);
+        assert_eq!(
+            read(&made),
+            stretches(&both(&|a, _| a.map(|value| value / 2)))
+        );
+        let count = |cells: &Cells| cells.iter().flatten().count() as u128;
+        let has_end = left[KEYS - 1].is_none();
+        assert_eq!(a.covered(), has_end.then(|| count(&left)), "seed {seed}");
+        for key in 0..KEYS as u8 {
+            let free = (key..KEYS as u8).find(|&key| left[usize::from(key)].is_none());
+            assert_eq!(a.next_gap(&key).copied(), free, "seed {seed}, {key}");
+        }
         let asked = both(&|a, b| b.and(a));
         assert_eq!(read(&a.restrict(&domain)), stretches(&asked));
         let asked = both(&|a, b| if b.is_some() { None } else { a });

@@ -223,6 +223,7 @@ fn chunked_calls() -> Vec<Row<ChunkedRangeSet<u32>>> {
         takes_none {
             new => ChunkedRangeSet::<u32>::new();
             boundaries_len => a.boundaries_len();
+            cursor => a.cursor().contains(&12);
             first_fit_unchanged => a.first_fit_unchanged(0..99, 3);
             first_fit_aligned => a.first_fit_aligned(0..99, 3, 4);
         }
@@ -243,6 +244,7 @@ fn space_calls() -> Vec<Row<ChunkedSpace<u32>>> {
             new => ChunkedSpace::<u32>::new();
             as_set => a.as_set();
             boundaries_len => a.boundaries_len();
+            cursor => a.cursor().contains(&12);
             first_fit_unchanged => a.first_fit_unchanged(0..99, 3);
         }
         goes_on {
