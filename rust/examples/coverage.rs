@@ -39,7 +39,7 @@ fn bases_at(depth: &RangeMap<u32, usize>, least: usize) -> u64 {
 }
 
 fn main() {
-    let depth = RangeMap::depth(&reads());
+    let depth = RangeMap::depth(reads());
     println!("{READS} reads make {} ranges of one depth", depth.len());
     for least in [1, 20, 40] {
         let share = bases_at(&depth, least) * 100 / BASES;

@@ -7,7 +7,7 @@ use crate::chunked::ChunkedRangeSet;
 use crate::entry::RangeSetEntry;
 use crate::generated::range_collections::lists::is_odd;
 use crate::generated::range_collections::questions::parts_within;
-use crate::generated::range_collections::{Comparisons, Unread as _};
+use crate::generated::range_collections::Comparisons;
 use crate::generated::range_merge::{count_up_to, search};
 use crate::iter::shown;
 use crate::map::{self, Map as RangeMapBy};
@@ -17,6 +17,7 @@ use crate::view::RangeSetRef;
 use core::fmt;
 use core::iter::FusedIterator;
 use core::ops::{Bound, Range, RangeFrom, RangeFull, RangeInclusive, RangeTo, RangeToInclusive};
+use core::slice;
 
 /// A range, of any kind that std has, within which a set or a map is looked at. `S` is the set, if
 /// it isn't a view.
@@ -184,7 +185,7 @@ impl<'a, T: Ord + 'a> Within<'a, T> for RangeInclusive<&'a T> {
         let (from, to) = (up_to(set, start), up_to(set, last));
         PartsWithin {
             first: (is_odd(from) == inside).then_some(Bound::Included(start)),
-            between: &set.boundaries()[from..to],
+            between: set.boundaries()[from..to].iter(),
             last: (is_odd(to) == inside).then_some(Bound::Included(last)),
         }
     }
@@ -244,7 +245,7 @@ fn up_to<T: Ord>(set: &RangeSetRef<T>, value: &T) -> usize {
 #[must_use = "iterators are lazy and do nothing unless consumed"]
 pub struct PartsWithin<'a, T> {
     first: Option<Bound<&'a T>>,
-    between: &'a [T],
+    between: slice::Iter<'a, T>,
     last: Option<Bound<&'a T>>,
 }
 
@@ -252,7 +253,7 @@ impl<'a, T> PartsWithin<'a, T> {
     fn nothing() -> Self {
         PartsWithin {
             first: None,
-            between: &[],
+            between: [].iter(),
             last: None,
         }
     }
@@ -268,7 +269,7 @@ impl<'a, T> PartsWithin<'a, T> {
         let from = usize::from(has_least && !inside);
         PartsWithin {
             first: (!inside && !has_least).then_some(Bound::Unbounded),
-            between: &items[from..to],
+            between: items[from..to].iter(),
             last: (is_odd(to) == inside).then_some(end),
         }
     }
@@ -278,31 +279,21 @@ impl<'a, T> Iterator for PartsWithin<'a, T> {
     type Item = (Bound<&'a T>, Bound<&'a T>);
 
     fn next(&mut self) -> Option<Self::Item> {
-        let start = self
-            .first
-            .take()
-            .or_else(|| self.between.take_first().map(Bound::Included))?;
-        let end = self
-            .between
-            .take_first()
-            .map(Bound::Excluded)
-            .or_else(|| self.last.take())?;
-        Some((start, end))
+        let between = &mut self.between;
+        let first = self.first.take();
+        let start = first.or_else(|| between.next().map(Bound::Included))?;
+        let end = between.next().map(Bound::Excluded);
+        Some((start, end.or_else(|| self.last.take())?))
     }
 }
 
 impl<'a, T> DoubleEndedIterator for PartsWithin<'a, T> {
     fn next_back(&mut self) -> Option<Self::Item> {
-        let end = self
-            .last
-            .take()
-            .or_else(|| self.between.take_last().map(Bound::Excluded))?;
-        let start = self
-            .between
-            .take_last()
-            .map(Bound::Included)
-            .or_else(|| self.first.take())?;
-        Some((start, end))
+        let between = &mut self.between;
+        let last = self.last.take();
+        let end = last.or_else(|| between.next_back().map(Bound::Excluded))?;
+        let start = between.next_back().map(Bound::Included);
+        Some((start.or_else(|| self.first.take())?, end))
     }
 }
 
@@ -310,6 +301,7 @@ impl<T> FusedIterator for PartsWithin<'_, T> {}
 
 impl<T> Clone for PartsWithin<'_, T> {
     fn clone(&self) -> Self {
-        PartsWithin { ..*self }
+        let between = self.between.clone();
+        PartsWithin { between, ..*self }
     }
 }
