@@ -16,6 +16,7 @@ pub use by_value::{Ended, EndedParts, Overlaps, Parts, PartsFrom, PartsOf};
 pub use within::{PartsWithin, Within};
 
 use crate::entry::RangeSetEntry;
+use crate::generated::range_collections::{Countable, FromPlace};
 use crate::range::RangeSetRange;
 use core::num::{NonZeroU128, NonZeroU16, NonZeroU32, NonZeroU64, NonZeroU8, NonZeroUsize};
 use core::ops::{Bound, Range, RangeFrom, RangeFull, RangeInclusive, RangeTo, RangeToInclusive};
@@ -216,38 +217,25 @@ macro_rules! non_zero_numbers {
 
 non_zero_numbers!(NonZeroU8 NonZeroU16 NonZeroU32 NonZeroU64 NonZeroU128 NonZeroUsize);
 
-impl NextValue for char {
-    #[inline]
-    fn next_value(self) -> Option<Self> {
-        // The surrogates after it are no characters.
-        if self == '\u{d7ff}' {
-            return Some('\u{e000}');
+macro_rules! by_place {
+    ($($(#[$attribute:meta])* $value:ty;)*) => {$(
+        $(#[$attribute])*
+        impl NextValue for $value {
+            #[inline]
+            fn next_value(self) -> Option<Self> {
+                Self::from_place(self.place().checked_add(1)?)
+            }
         }
-        char::from_u32(u32::from(self) + 1)
-    }
+    )*};
 }
 
-impl NextValue for Duration {
-    #[inline]
-    fn next_value(self) -> Option<Self> {
-        self.checked_add(Duration::from_nanos(1))
-    }
-}
-
-#[cfg(feature = "std")]
-#[cfg_attr(docsrs, doc(cfg(feature = "std")))]
-impl NextValue for Ipv4Addr {
-    #[inline]
-    fn next_value(self) -> Option<Self> {
-        u32::from(self).checked_add(1).map(Self::from)
-    }
-}
-
-#[cfg(feature = "std")]
-#[cfg_attr(docsrs, doc(cfg(feature = "std")))]
-impl NextValue for Ipv6Addr {
-    #[inline]
-    fn next_value(self) -> Option<Self> {
-        u128::from(self).checked_add(1).map(Self::from)
-    }
+by_place! {
+    char;
+    Duration;
+    #[cfg(feature = "std")]
+    #[cfg_attr(docsrs, doc(cfg(feature = "std")))]
+    Ipv4Addr;
+    #[cfg(feature = "std")]
+    #[cfg_attr(docsrs, doc(cfg(feature = "std")))]
+    Ipv6Addr;
 }

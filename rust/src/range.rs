@@ -265,28 +265,22 @@ impl<T> RangeSetRange<T> {
 }
 
 /// The ranges of values, where those that come one after the other are in one.
+#[inline]
 pub(crate) fn runs<T: FromPlace>(
-    mut values: impl Iterator<Item = T>,
+    values: impl Iterator<Item = T>,
 ) -> impl Iterator<Item = RangeSetRange<T>> {
-    let mut run: Option<RangeSetRange<T>> = None;
+    let (mut values, mut ahead) = (values.fuse(), None);
     iter::from_fn(move || {
+        let first = ahead.take().or_else(|| values.next())?;
+        let (start, mut end) = RangeSetRange::of_value(first).into_ends();
         for value in values.by_ref() {
-            let range = RangeSetRange::of_value(value);
-            let before = match run.take() {
-                Some(before) if before.end() != Some(range.start()) => Some(before),
-                Some(before) => {
-                    let (start, _) = before.into_ends();
-                    run = Some(RangeSetRange::of_ends(start, range.into_ends().1));
-                    continue;
-                }
-                None => None,
-            };
-            run = Some(range);
-            if before.is_some() {
-                return before;
+            if end.as_ref() != Some(&value) {
+                ahead = Some(value);
+                break;
             }
+            end = RangeSetRange::of_value(value).into_ends().1;
         }
-        run.take()
+        Some(RangeSetRange::of_ends(start, end))
     })
 }
 
