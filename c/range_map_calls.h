@@ -34,23 +34,35 @@ STRETCH NAME(range_at)(MAP map, NUMBER key)
     return NAME(around)(map, key);
 }
 
-size_t NAME(next_ranges)(MAP map, NUMBER from, STRETCH *out, size_t room)
+/* Writes the first ranges that share a key with `from` to below `end`, as many as there is room for, and returns how many these are. */
+static size_t NAME(write_ranges)(MAP map, KEY from, KEY end, STRETCH *out, size_t room)
 {
     enum { SOME = 32 };
-    KEY ends[2 * SOME], at = from;
+    KEY ends[2 * SOME];
     uint64_t values[SOME];
     size_t len = 0, some, found, i;
     if (map.at == NULL || room == 0 || !is_array(out, room, sizeof *out)) return 0;
     do {
         some = room - len < SOME ? room - len : SOME;
-        found = EXPORT(overlapping)((HELD *)&map, at, GREATEST, ends, 2 * some, values, some);
+        found = EXPORT(overlapping)((HELD *)&map, from, end, ends, 2 * some, values, some);
         for (i = 0; 2 * i < found; i++) {
             const bool has_end = 2 * i + 1 < found;
-            at = has_end ? ends[2 * i + 1] : 0;
-            out[len++] = (STRETCH){(NUMBER)ends[2 * i], (NUMBER)at, values[i], true, has_end, true};
+            from = has_end ? ends[2 * i + 1] : 0;
+            out[len++] = (STRETCH){(NUMBER)ends[2 * i], (NUMBER)from, values[i], true, has_end, true};
         }
     } while (found == 2 * some && len < room);
-    if (len < room && found % 2 == 0) {
+    return len;
+}
+
+size_t NAME(overlapping)(MAP map, NUMBER start, NUMBER end, STRETCH *out, size_t room)
+{
+    return NAME(write_ranges)(map, start, end, out, room);
+}
+
+size_t NAME(next_ranges)(MAP map, NUMBER from, STRETCH *out, size_t room)
+{
+    size_t len = NAME(write_ranges)(map, from, GREATEST, out, room);
+    if (out != NULL && len < room && (len == 0 || out[len - 1].has_end)) {
         const STRETCH last = NAME(around)(map, GREATEST);
         if (last.has_value) out[len++] = last;
     }
@@ -64,6 +76,94 @@ bool NAME(next)(MAP map, NUMBER from, STRETCH *stretch)
     if (!it.has_value && it.has_end) it = NAME(range_at)(map, it.end);
     if (it.has_value && stretch != NULL) *stretch = it;
     return it.has_value;
+}
+
+bool NAME(first)(MAP map, STRETCH *stretch)
+{
+    return NAME(next)(map, LEAST, stretch);
+}
+
+bool NAME(last)(MAP map, STRETCH *stretch)
+{
+    STRETCH it = NAME(range_at)(map, MOST);
+    /* Before keys without a value come some that have one. */
+    if (!it.has_value && it.has_start) it = NAME(range_at)(map, it.start - 1);
+    if (it.has_value && stretch != NULL) *stretch = it;
+    return it.has_value;
+}
+
+bool NAME(span)(MAP map, RANGE *range)
+{
+    STRETCH first = {0, 0, 0, false, false, false}, last = first;
+    bool found = NAME(first)(map, &first) && NAME(last)(map, &last);
+    return CALL(write_range)(found, (RANGE){first.start, last.end, last.has_end}, range);
+}
+
+range_set_status NAME(gaps)(MAP map, NUMBER start, NUMBER end, NUMBER *out, size_t room, SET *result)
+{
+    bool more = start < end;
+    size_t len = 0;
+    STRETCH it;
+    if (!is_array(out, room, sizeof *out) || !CALL(is_result)(result, out, room)) return RANGE_SET_BAD_ARGUMENT;
+    for (; more; start = it.end) {
+        it = NAME(range_at)(map, start);
+        more = it.has_end && it.end < end;
+        if (it.has_value) continue;
+        len = CALL(append_number)(start, out, room, len);
+        len = CALL(append_number)(more ? it.end : end, out, room, len);
+    }
+    return CALL(write_result)(len, out, room, result);
+}
+
+/* Where numbers fit between two keys, or where `end` is null from one on, if no key there has a value. */
+static bool NAME(fits)(NUMBER start, const NUMBER *end, COUNT count, COUNT align, NUMBER *first)
+{
+    return end != NULL ? CALL(first_fit_aligned)(CALL(no_member), start, *end, count, align, first)
+                       : CALL(first_fit_aligned_from)(CALL(no_member), start, count, align, first);
+}
+
+/* The first of the parts without a value in which they fit. A count of 0 fits beside any values. */
+static bool NAME(first_free)(MAP map, NUMBER start, const NUMBER *end, COUNT count, COUNT align, NUMBER *first)
+{
+    bool more = true;
+    STRETCH it;
+    if (count == 0) return NAME(fits)(start, end, count, align, first);
+    for (; more; start = it.end) {
+        it = NAME(range_at)(map, start);
+        more = it.has_end && (end == NULL || it.end < *end);
+        if (!it.has_value && NAME(fits)(start, more ? &it.end : end, count, align, first)) return true;
+    }
+    return false;
+}
+
+bool NAME(first_fit)(MAP map, NUMBER start, NUMBER end, COUNT count, NUMBER *first)
+{
+    return NAME(first_free)(map, start, &end, count, 1, first);
+}
+
+bool NAME(first_fit_from)(MAP map, NUMBER start, COUNT count, NUMBER *first)
+{
+    return NAME(first_free)(map, start, NULL, count, 1, first);
+}
+
+bool NAME(first_fit_aligned)(MAP map, NUMBER start, NUMBER end, COUNT count, COUNT align, NUMBER *first)
+{
+    return NAME(first_free)(map, start, &end, count, align, first);
+}
+
+bool NAME(first_fit_aligned_from)(MAP map, NUMBER start, COUNT count, COUNT align, NUMBER *first)
+{
+    return NAME(first_free)(map, start, NULL, count, align, first);
+}
+
+bool NAME(covered)(MAP map, uint64_t *count)
+{
+    uint64_t total = 0;
+    STRETCH it;
+    bool more = NAME(first)(map, &it);
+    for (; more && it.has_end; more = NAME(next)(map, it.end, &it)) total += (COUNT)((COUNT)it.end - (COUNT)it.start);
+    if (!more && count != NULL) *count = total;
+    return !more;
 }
 
 range_set_status NAME(of)(const NUMBER *ranges, const uint64_t *values, size_t count, MAP *map)

@@ -8,6 +8,7 @@ bool EXPORT(insert)(HELD *map, KEY start, KEY end, uint64_t value);
 bool EXPORT(insert_from)(HELD *map, KEY start, uint64_t value);
 bool EXPORT(remove)(HELD *map, KEY start, KEY end);
 bool EXPORT(remove_from)(HELD *map, KEY start);
+void EXPORT(clear)(HELD *map);
 bool EXPORT(get)(HELD *map, KEY key, uint64_t *value);
 bool EXPORT(range_at)(HELD *map, KEY key, KEY *start, bool *has_start, KEY *end, bool *has_end, uint64_t *value);
 size_t EXPORT(overlapping)(HELD *map, KEY start, KEY end, KEY *ends, size_t ends_len, uint64_t *values, size_t values_len);

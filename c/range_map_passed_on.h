@@ -30,3 +30,8 @@ range_set_status NAME(remove_from)(MAP *map, NUMBER start)
     if (map == NULL || map->at == NULL) return RANGE_SET_BAD_ARGUMENT;
     return EXPORT(remove_from)((HELD *)map, start) ? RANGE_SET_DONE : RANGE_SET_NO_MEMORY;
 }
+
+void NAME(clear)(MAP *map)
+{
+    if (map != NULL && map->at != NULL) EXPORT(clear)((HELD *)map);
+}

@@ -16,6 +16,54 @@ range_set_status NAME(chunked_of)(SET list, CHUNKED *set)
     return EXPORT(chunked_of)(set, LIST(list)) ? RANGE_SET_DONE : RANGE_SET_NO_MEMORY;
 }
 
+range_set_status NAME(chunked_clone)(CHUNKED set, CHUNKED *copy)
+{
+    if (copy == NULL) return RANGE_SET_BAD_ARGUMENT;
+    if (set.at == NULL) return NAME(chunked_new)(copy);
+    copy->at = NULL;
+    return EXPORT(chunked_clone)(copy, &set) ? RANGE_SET_DONE : RANGE_SET_NO_MEMORY;
+}
+
+/* Memory for a list, and null if there is none. */
+static NUMBER *NAME(list_of)(size_t len)
+{
+    return len <= PTRDIFF_MAX / sizeof(NUMBER) ? range_heap_malloc((len + (len == 0)) * sizeof(NUMBER)) : NULL;
+}
+
+range_set_status NAME(chunked_from_values)(const NUMBER *values, size_t count, CHUNKED *set)
+{
+    NUMBER *items;
+    SET list;
+    range_set_status status;
+    if (set == NULL || !is_array(values, count, 2 * sizeof *values) || overlap(set, sizeof *set, values, count * sizeof *values))
+        return RANGE_SET_BAD_ARGUMENT;
+    items = NAME(list_of)(2 * count);
+    if (items == NULL) return RANGE_SET_NO_MEMORY;
+    status = NAME(from_values)(values, count, items, 2 * count, &list);
+    if (status == RANGE_SET_DONE) status = NAME(chunked_of)(list, set);
+    range_heap_free(items);
+    return status;
+}
+
+/* A set and itself are asked as one: the exports take two. */
+bool NAME(chunked_intersects)(CHUNKED a, CHUNKED b)
+{
+    if (a.at == b.at) return !NAME(chunked_is_empty)(a);
+    return a.at != NULL && b.at != NULL && EXPORT(chunked_intersects)(&a, &b);
+}
+
+bool NAME(chunked_is_subset)(CHUNKED a, CHUNKED b)
+{
+    if (a.at == b.at || b.at == NULL) return a.at == b.at || NAME(chunked_is_empty)(a);
+    return a.at == NULL || EXPORT(chunked_is_subset)(&a, &b);
+}
+
+bool NAME(chunked_equal)(CHUNKED a, CHUNKED b)
+{
+    if (a.at == b.at || a.at == NULL || b.at == NULL) return NAME(chunked_is_subset)(a, b) && NAME(chunked_is_subset)(b, a);
+    return EXPORT(chunked_equal)(&a, &b);
+}
+
 bool NAME(chunked_next)(CHUNKED set, NUMBER from, RANGE *range)
 {
     RANGE it = {0, 0, false};
@@ -94,6 +142,36 @@ range_set_status NAME(chunked_copy)(CHUNKED set, NUMBER *out, size_t room, SET *
     return NAME(write_result)(set.at != NULL ? EXPORT(chunked_copy)(&set, ROOM(out, room)) : 0, out, room, result);
 }
 
+/* Some ranges at a time, and a comma and a space before all but the first. Without room for all it only counts. */
+static size_t NAME(put_text)(CHUNKED set, char *text, size_t room)
+{
+    enum { SOME = 64 };
+    NUMBER some[SOME], from = LEAST;
+    range_set_status status = RANGE_SET_MORE;
+    size_t len = 0, part_len;
+    SET part;
+    while (status == RANGE_SET_MORE) {
+        status = NAME(write_ranges)(set, from, NULL, some, SOME, &part);
+        if (len > 0) {
+            if (room > 0) memcpy(text + len, ", ", 2);
+            len += 2;
+        }
+        if (NAME(print)(part, room > 0 ? text + len : NULL, room > 0 ? room - len : 0, &part_len) != RANGE_SET_DONE) room = 0;
+        len += part_len;
+        from = some[SOME - 1];
+    }
+    return len;
+}
+
+range_set_status NAME(chunked_print)(CHUNKED set, char *text, size_t room, size_t *len)
+{
+    if (!NAME(is_apart_from_text)(NAME(no_member), text, room, len)) return RANGE_SET_BAD_ARGUMENT;
+    *len = NAME(put_text)(set, NULL, 0);
+    if (*len > room) return RANGE_SET_NO_ROOM;
+    NAME(put_text)(set, text, room);
+    return RANGE_SET_DONE;
+}
+
 /* Writes a number behind `len` others, where there is room, and returns how many there are. */
 static inline size_t NAME(append_number)(NUMBER number, NUMBER *out, size_t room, size_t len)
 {
@@ -140,7 +218,7 @@ range_set_status NAME(chunked_combine)(CHUNKED *set, SET other, unsigned keep)
         done = keep == RANGE_SET_UNION ? EXPORT(chunked_insert_all)(set, LIST(other)) : EXPORT(chunked_remove_all)(set, LIST(other));
         return done ? RANGE_SET_DONE : RANGE_SET_NO_MEMORY;
     }
-    items = len + room <= PTRDIFF_MAX / sizeof *items ? range_heap_malloc((len + room) * sizeof *items) : NULL;
+    items = NAME(list_of)(len + room);
     if (items == NULL) return RANGE_SET_NO_MEMORY;
     if (NAME(chunked_copy)(*set, items, len, &list) == RANGE_SET_DONE
         && NAME(combine)(list, other, keep, items + len, room, &list) == RANGE_SET_DONE && EXPORT(chunked_of)(&made, LIST(list)))
@@ -149,6 +227,19 @@ range_set_status NAME(chunked_combine)(CHUNKED *set, SET other, unsigned keep)
     if (status != RANGE_SET_DONE) return status;
     NAME(chunked_free)(set);
     *set = made;
+    return status;
+}
+
+range_set_status NAME(chunked_combine_chunked)(CHUNKED *set, CHUNKED other, unsigned keep)
+{
+    const size_t len = NAME(chunked_boundaries_len)(other);
+    NUMBER *items = NAME(list_of)(len);
+    SET list;
+    range_set_status status;
+    if (items == NULL) return RANGE_SET_NO_MEMORY;
+    status = NAME(chunked_copy)(other, items, len, &list);
+    if (status == RANGE_SET_DONE) status = NAME(chunked_combine)(set, list, keep);
+    range_heap_free(items);
     return status;
 }
 

@@ -127,6 +127,13 @@ bool NAME(first_fit)(SET set, NUMBER start, NUMBER end, COUNT count, NUMBER *fir
     return NAME(write_number)(found, it, first);
 }
 
+bool NAME(first_fit_from)(SET set, NUMBER start, COUNT count, NUMBER *first)
+{
+    NUMBER it = 0;
+    bool found = EXPORT(first_fit_from)(LIST(set), start, count, &it);
+    return NAME(write_number)(found, it, first);
+}
+
 bool NAME(first_fit_aligned)(SET set, NUMBER start, NUMBER end, COUNT count, COUNT align, NUMBER *first)
 {
     NUMBER it = 0;
@@ -134,10 +141,24 @@ bool NAME(first_fit_aligned)(SET set, NUMBER start, NUMBER end, COUNT count, COU
     return NAME(write_number)(found, it, first);
 }
 
+bool NAME(first_fit_aligned_from)(SET set, NUMBER start, COUNT count, COUNT align, NUMBER *first)
+{
+    NUMBER it = 0;
+    bool found = EXPORT(first_fit_aligned_from)(LIST(set), start, count, align, &it);
+    return NAME(write_number)(found, it, first);
+}
+
 bool NAME(first_run)(SET set, NUMBER start, NUMBER end, COUNT count, NUMBER *first)
 {
     NUMBER it = 0;
     bool found = EXPORT(first_run)(LIST(set), start, end, count, &it);
+    return NAME(write_number)(found, it, first);
+}
+
+bool NAME(first_run_from)(SET set, NUMBER start, COUNT count, NUMBER *first)
+{
+    NUMBER it = 0;
+    bool found = EXPORT(first_run_from)(LIST(set), start, count, &it);
     return NAME(write_number)(found, it, first);
 }
 
@@ -253,6 +274,24 @@ bool NAME(chunked_prev_gap)(CHUNKED set, NUMBER from, NUMBER *previous)
     return EXPORT(chunked_prev_gap)(&set, from, previous);
 }
 
+bool NAME(chunked_intersects_list)(CHUNKED set, SET list)
+{
+    if (set.at == NULL) return NAME(intersects)(NAME(no_member), list);
+    return EXPORT(chunked_intersects_list)(&set, LIST(list));
+}
+
+bool NAME(chunked_is_subset_list)(CHUNKED set, SET list)
+{
+    if (set.at == NULL) return NAME(is_subset)(NAME(no_member), list);
+    return EXPORT(chunked_is_subset_list)(&set, LIST(list));
+}
+
+bool NAME(chunked_is_superset_list)(CHUNKED set, SET list)
+{
+    if (set.at == NULL) return NAME(is_superset)(NAME(no_member), list);
+    return EXPORT(chunked_is_superset_list)(&set, LIST(list));
+}
+
 uint64_t NAME(chunked_rank)(CHUNKED set, NUMBER at)
 {
     if (set.at == NULL) return NAME(rank)(NAME(no_member), at);
@@ -299,6 +338,14 @@ bool NAME(chunked_first_fit)(CHUNKED *set, NUMBER start, NUMBER end, COUNT count
     return EXPORT(chunked_first_fit)(set, start, end, count, first);
 }
 
+bool NAME(chunked_first_fit_from)(CHUNKED *set, NUMBER start, COUNT count, NUMBER *first)
+{
+    NUMBER it;
+    if (set == NULL || set->at == NULL) return NAME(first_fit_from)(NAME(no_member), start, count, first);
+    if (first == NULL) first = &it;
+    return EXPORT(chunked_first_fit_from)(set, start, count, first);
+}
+
 bool NAME(chunked_first_fit_aligned)(CHUNKED *set, NUMBER start, NUMBER end, COUNT count, COUNT align, NUMBER *first)
 {
     NUMBER it;
@@ -307,12 +354,28 @@ bool NAME(chunked_first_fit_aligned)(CHUNKED *set, NUMBER start, NUMBER end, COU
     return EXPORT(chunked_first_fit_aligned)(set, start, end, count, align, first);
 }
 
+bool NAME(chunked_first_fit_aligned_from)(CHUNKED *set, NUMBER start, COUNT count, COUNT align, NUMBER *first)
+{
+    NUMBER it;
+    if (set == NULL || set->at == NULL) return NAME(first_fit_aligned_from)(NAME(no_member), start, count, align, first);
+    if (first == NULL) first = &it;
+    return EXPORT(chunked_first_fit_aligned_from)(set, start, count, align, first);
+}
+
 bool NAME(chunked_first_run)(CHUNKED set, NUMBER start, NUMBER end, COUNT count, NUMBER *first)
 {
     NUMBER it;
     if (set.at == NULL) return NAME(first_run)(NAME(no_member), start, end, count, first);
     if (first == NULL) first = &it;
     return EXPORT(chunked_first_run)(&set, start, end, count, first);
+}
+
+bool NAME(chunked_first_run_from)(CHUNKED set, NUMBER start, COUNT count, NUMBER *first)
+{
+    NUMBER it;
+    if (set.at == NULL) return NAME(first_run_from)(NAME(no_member), start, count, first);
+    if (first == NULL) first = &it;
+    return EXPORT(chunked_first_run_from)(&set, start, count, first);
 }
 
 size_t NAME(chunked_ranges_len)(CHUNKED set)

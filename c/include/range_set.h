@@ -47,9 +47,10 @@
  *
  * In the library for x86-64 Linux the calls are proved, but for the layer in C before them (range_set.c), which finds
  * null pointers and overlap, makes the statuses, owns sets, takes memory from an allocator, and makes of other calls
- * union_all, from_values, parse, parse_by, chunked_next, chunked_next_ranges, chunked_gaps, chunked_combine, what ends
- * with _changed, and `next`, `next_ranges`, `of`, `copy` and keys of 32 bits of maps. That is tested, as is what cargo
- * builds for other machines, under the same layer.
+ * union_all, from_values, parse, parse_by, chunked_next, chunked_next_ranges, chunked_gaps, chunked_from_values,
+ * chunked_print, chunked_combine, chunked_combine_chunked, what ends with _changed, and of maps `next`, `next_ranges`,
+ * `overlapping`, `of`, `copy`, `first`, `last`, `span`, `gaps`, `covered`, what begins with `first_fit`, and keys of 32
+ * bits. That is tested, as is what cargo builds for other machines, under the same layer.
  */
 #ifndef RANGE_SET_H
 #define RANGE_SET_H
@@ -426,16 +427,21 @@ RANGE_SET_STATUS range_set_i32_parse_by(const char *text, size_t text_len, char 
 
 /* Whether there is a number from which on `count` numbers lie in `start` to below `end` and none of them is a member,
  * and then the least one: the first place where they fit. Where there is none `first` is as it was. It may be null.
- * A count of 0 fits at `start`, if end >= start. Looks at each boundary from `start` on, up to the answer. */
+ * A count of 0 fits at `start`, if end >= start. With `_from` they may lie anywhere from `start` on, up to the greatest
+ * number. Looks at each boundary from `start` on, up to the answer. */
 bool range_set_i32_first_fit(range_set_i32 set, int32_t start, int32_t end, uint32_t count, int32_t *first);
+bool range_set_i32_first_fit_from(range_set_i32 set, int32_t start, uint32_t count, int32_t *first);
 
 /* The same, but only where the first is a multiple of `align`, above 0 or below. An `align` of 0 fits nowhere. */
 bool range_set_i32_first_fit_aligned(range_set_i32 set, int32_t start, int32_t end, uint32_t count, uint32_t align,
                                      int32_t *first);
+bool range_set_i32_first_fit_aligned_from(range_set_i32 set, int32_t start, uint32_t count, uint32_t align,
+                                          int32_t *first);
 
 /* Whether `count` members in a row lie in `start` to below `end`, and then the least number that such begin with. Else,
  * and with a count of 0, as `first_fit`. Looks at each boundary from `start` on, up to the answer. */
 bool range_set_i32_first_run(range_set_i32 set, int32_t start, int32_t end, uint32_t count, int32_t *first);
+bool range_set_i32_first_run_from(range_set_i32 set, int32_t start, uint32_t count, int32_t *first);
 
 /* ---- Sets of int32_t that change in their buffer ---- */
 
@@ -550,7 +556,7 @@ RANGE_SET_INLINE void range_set_i32_owned_clear(range_set_i32_owned *owned)
  * it takes about as long in a set of a million ranges as in a small one. Its memory comes from malloc, unless
  * `range_set_use_allocator` named another. The field is for the library alone. {NULL} is no set: it has no member, and
  * no call changes it. Calls that take a set itself only read, so several threads may make them at once. Those that take
- * its address write, `chunked_first_fit` and `chunked_first_fit_aligned` too, which remember: no other call may be
+ * its address write, `chunked_first_fit` and its like too, which remember: no other call may be
  * given the set meanwhile. Nothing is proved of a set that goes from one thread to another. */
 typedef struct range_set_i32_chunked {
     void *at;
@@ -560,6 +566,11 @@ typedef struct range_set_i32_chunked {
  * is none. A list that isn't strictly sorted is RANGE_SET_NOT_SORTED. */
 RANGE_SET_STATUS range_set_i32_chunked_new(range_set_i32_chunked *set);
 RANGE_SET_STATUS range_set_i32_chunked_of(range_set_i32 list, range_set_i32_chunked *set);
+
+/* Makes a copy of a set, the set of these numbers, in any order, some of them more than once. It has to be freed. Where
+ * an allocation fails there is none. Memory for two numbers for each is taken meanwhile, and not for a copy. */
+RANGE_SET_STATUS range_set_i32_chunked_clone(range_set_i32_chunked set, range_set_i32_chunked *copy);
+RANGE_SET_STATUS range_set_i32_chunked_from_values(const int32_t *values, size_t count, range_set_i32_chunked *set);
 
 /* Gives the memory back, and leaves {NULL}. Does nothing where `set` is null or no set. */
 void range_set_i32_chunked_free(range_set_i32_chunked *set);
@@ -586,7 +597,37 @@ bool range_set_i32_chunked_last(range_set_i32_chunked set, range_set_i32_range *
 bool range_set_i32_chunked_prev_member(range_set_i32_chunked set, int32_t from, int32_t *previous);
 bool range_set_i32_chunked_prev_gap(range_set_i32_chunked set, int32_t from, int32_t *previous);
 
-/* The same, and each looks at the boundaries one by one: those below `at`, or up to the result, or all. */
+/* As the calls of these names for lists, of two sets in chunks, and with `_list` of one and a list. Each makes a search
+ * in the set of more boundaries for each range of the other, up to the answer; `chunked_equal` goes over both. */
+bool range_set_i32_chunked_intersects(range_set_i32_chunked a, range_set_i32_chunked b);
+bool range_set_i32_chunked_is_subset(range_set_i32_chunked a, range_set_i32_chunked b);
+bool range_set_i32_chunked_equal(range_set_i32_chunked a, range_set_i32_chunked b);
+bool range_set_i32_chunked_intersects_list(range_set_i32_chunked set, range_set_i32 list);
+bool range_set_i32_chunked_is_subset_list(range_set_i32_chunked set, range_set_i32 list);
+bool range_set_i32_chunked_is_superset_list(range_set_i32_chunked set, range_set_i32 list);
+
+RANGE_SET_INLINE bool range_set_i32_chunked_is_disjoint(range_set_i32_chunked a, range_set_i32_chunked b)
+{
+    return !range_set_i32_chunked_intersects(a, b);
+}
+
+RANGE_SET_INLINE bool range_set_i32_chunked_is_superset(range_set_i32_chunked a, range_set_i32_chunked b)
+{
+    return range_set_i32_chunked_is_subset(b, a);
+}
+
+RANGE_SET_INLINE bool range_set_i32_chunked_is_disjoint_list(range_set_i32_chunked set, range_set_i32 list)
+{
+    return !range_set_i32_chunked_intersects_list(set, list);
+}
+
+RANGE_SET_INLINE bool range_set_i32_chunked_equal_list(range_set_i32_chunked set, range_set_i32 list)
+{
+    return range_set_i32_chunked_is_subset_list(set, list) && range_set_i32_chunked_is_superset_list(set, list);
+}
+
+/* As the calls of these names for lists, and each looks at the boundaries one by one: those below `at`, or up to the
+ * result, or all. */
 uint64_t range_set_i32_chunked_rank(range_set_i32_chunked set, int32_t at);
 bool range_set_i32_chunked_select(range_set_i32_chunked set, uint64_t k, int32_t *at);
 bool range_set_i32_chunked_covered(range_set_i32_chunked set, uint64_t *count);
@@ -607,12 +648,16 @@ bool range_set_i32_chunked_next(range_set_i32_chunked set, int32_t from, range_s
  * enough it remembers only for the last `align` that no multiple fits. Without memory it remembers less. */
 bool range_set_i32_chunked_first_fit(range_set_i32_chunked *set, int32_t start, int32_t end, uint32_t count,
                                      int32_t *first);
+bool range_set_i32_chunked_first_fit_from(range_set_i32_chunked *set, int32_t start, uint32_t count, int32_t *first);
 bool range_set_i32_chunked_first_fit_aligned(range_set_i32_chunked *set, int32_t start, int32_t end, uint32_t count,
                                              uint32_t align, int32_t *first);
+bool range_set_i32_chunked_first_fit_aligned_from(range_set_i32_chunked *set, int32_t start, uint32_t count,
+                                                  uint32_t align, int32_t *first);
 
 /* As `first_run`. It remembers nothing, and looks at each range from `start` on, up to the answer. */
 bool range_set_i32_chunked_first_run(range_set_i32_chunked set, int32_t start, int32_t end, uint32_t count,
                                      int32_t *first);
+bool range_set_i32_chunked_first_run_from(range_set_i32_chunked set, int32_t start, uint32_t count, int32_t *first);
 
 /* Writes the ranges that share a number with `start` to below `end`, whole, as a list. Where there are more than the
  * buffer has room for it writes the first room / 2, and returns RANGE_SET_MORE; where it has room for none,
@@ -641,6 +686,9 @@ size_t range_set_i32_chunked_boundaries_len(range_set_i32_chunked set);
 RANGE_SET_STATUS range_set_i32_chunked_copy(range_set_i32_chunked set, int32_t *out, size_t room,
                                             range_set_i32 *result);
 
+/* Writes the set as a text, as `print`, without a list of it. */
+RANGE_SET_STATUS range_set_i32_chunked_print(range_set_i32_chunked set, char *text, size_t room, size_t *len);
+
 /* Writes the numbers from `start` to below `end` that are no members. It reads the ranges there some at a time. */
 RANGE_SET_STATUS range_set_i32_chunked_gaps(range_set_i32_chunked set, int32_t start, int32_t end, int32_t *out,
                                             size_t room, range_set_i32 *result);
@@ -650,6 +698,10 @@ RANGE_SET_STATUS range_set_i32_chunked_gaps(range_set_i32_chunked set, int32_t s
  * and new chunks of both sets. Where an allocation fails, or `other` isn't strictly sorted (RANGE_SET_NOT_SORTED), the
  * set is as it was. */
 RANGE_SET_STATUS range_set_i32_chunked_combine(range_set_i32_chunked *set, range_set_i32 other, unsigned keep);
+
+/* The same with another set in chunks, of which it makes a list meanwhile. It may be the set itself. */
+RANGE_SET_STATUS range_set_i32_chunked_combine_chunked(range_set_i32_chunked *set, range_set_i32_chunked other,
+                                                       unsigned keep);
 
 /* As `insert`, `remove`, `chunked_insert` and `chunked_remove`, and where that was done `changed` is whether the set
  * has other members now. */
@@ -693,6 +745,9 @@ RANGE_SET_STATUS range_map_i32_remove(range_map_i32 *map, int32_t start, int32_t
 RANGE_SET_STATUS range_map_i32_insert_from(range_map_i32 *map, int32_t start, uint64_t value);
 RANGE_SET_STATUS range_map_i32_remove_from(range_map_i32 *map, int32_t start);
 
+/* Takes all values away. Does nothing where `map` is null or no map. */
+void range_map_i32_clear(range_map_i32 *map);
+
 /* Whether the key has a value, and then which. `value` may be null. */
 bool range_map_i32_get(range_map_i32 map, int32_t key, uint64_t *value);
 
@@ -708,6 +763,31 @@ bool range_map_i32_next(range_map_i32 map, int32_t from, range_map_i32_stretch *
 
 /* Writes the first of those ranges, as many as there is room for, and returns how many these are: by one search. */
 size_t range_map_i32_next_ranges(range_map_i32 map, int32_t from, range_map_i32_stretch *out, size_t room);
+
+/* Writes the first of those that share a key with `start` to below `end`, whole, in the same way. The others are those
+ * from the end of the last one on. */
+size_t range_map_i32_overlapping(range_map_i32 map, int32_t start, int32_t end, range_map_i32_stretch *out,
+                                 size_t room);
+
+/* Whether a key has a value, and then the first range of such keys, the last one, and the range from the start of the
+ * first to the end of the last. */
+bool range_map_i32_first(range_map_i32 map, range_map_i32_stretch *stretch);
+bool range_map_i32_last(range_map_i32 map, range_map_i32_stretch *stretch);
+bool range_map_i32_span(range_map_i32 map, range_set_i32_range *range);
+
+/* Writes the set of the keys from `start` to below `end` that have no value, as other calls write sets. Makes a search
+ * for each range and each gap there. */
+RANGE_SET_STATUS range_map_i32_gaps(range_map_i32 map, int32_t start, int32_t end, int32_t *out, size_t room,
+                                    range_set_i32 *result);
+
+/* As the calls of these names for sets, where the keys that have a value are the members. They search as `gaps`. */
+bool range_map_i32_first_fit(range_map_i32 map, int32_t start, int32_t end, uint32_t count, int32_t *first);
+bool range_map_i32_first_fit_from(range_map_i32 map, int32_t start, uint32_t count, int32_t *first);
+bool range_map_i32_first_fit_aligned(range_map_i32 map, int32_t start, int32_t end, uint32_t count, uint32_t align,
+                                     int32_t *first);
+bool range_map_i32_first_fit_aligned_from(range_map_i32 map, int32_t start, uint32_t count, uint32_t align,
+                                          int32_t *first);
+bool range_map_i32_covered(range_map_i32 map, uint64_t *count);
 
 /* Makes a map of `count` ranges, a start and an end each, with their values; where they overlap the later one's holds.
  * Makes a copy. They have to be freed. Where an allocation fails there is none. */
@@ -1013,16 +1093,21 @@ RANGE_SET_STATUS range_set_u32_parse_by(const char *text, size_t text_len, char 
 
 /* Whether there is a number from which on `count` numbers lie in `start` to below `end` and none of them is a member,
  * and then the least one: the first place where they fit. Where there is none `first` is as it was. It may be null.
- * A count of 0 fits at `start`, if end >= start. Looks at each boundary from `start` on, up to the answer. */
+ * A count of 0 fits at `start`, if end >= start. With `_from` they may lie anywhere from `start` on, up to the greatest
+ * number. Looks at each boundary from `start` on, up to the answer. */
 bool range_set_u32_first_fit(range_set_u32 set, uint32_t start, uint32_t end, uint32_t count, uint32_t *first);
+bool range_set_u32_first_fit_from(range_set_u32 set, uint32_t start, uint32_t count, uint32_t *first);
 
 /* The same, but only where the first is a multiple of `align`, above 0 or below. An `align` of 0 fits nowhere. */
 bool range_set_u32_first_fit_aligned(range_set_u32 set, uint32_t start, uint32_t end, uint32_t count, uint32_t align,
                                      uint32_t *first);
+bool range_set_u32_first_fit_aligned_from(range_set_u32 set, uint32_t start, uint32_t count, uint32_t align,
+                                          uint32_t *first);
 
 /* Whether `count` members in a row lie in `start` to below `end`, and then the least number that such begin with. Else,
  * and with a count of 0, as `first_fit`. Looks at each boundary from `start` on, up to the answer. */
 bool range_set_u32_first_run(range_set_u32 set, uint32_t start, uint32_t end, uint32_t count, uint32_t *first);
+bool range_set_u32_first_run_from(range_set_u32 set, uint32_t start, uint32_t count, uint32_t *first);
 
 /* ---- Sets of uint32_t that change in their buffer ---- */
 
@@ -1137,7 +1222,7 @@ RANGE_SET_INLINE void range_set_u32_owned_clear(range_set_u32_owned *owned)
  * it takes about as long in a set of a million ranges as in a small one. Its memory comes from malloc, unless
  * `range_set_use_allocator` named another. The field is for the library alone. {NULL} is no set: it has no member, and
  * no call changes it. Calls that take a set itself only read, so several threads may make them at once. Those that take
- * its address write, `chunked_first_fit` and `chunked_first_fit_aligned` too, which remember: no other call may be
+ * its address write, `chunked_first_fit` and its like too, which remember: no other call may be
  * given the set meanwhile. Nothing is proved of a set that goes from one thread to another. */
 typedef struct range_set_u32_chunked {
     void *at;
@@ -1147,6 +1232,11 @@ typedef struct range_set_u32_chunked {
  * is none. A list that isn't strictly sorted is RANGE_SET_NOT_SORTED. */
 RANGE_SET_STATUS range_set_u32_chunked_new(range_set_u32_chunked *set);
 RANGE_SET_STATUS range_set_u32_chunked_of(range_set_u32 list, range_set_u32_chunked *set);
+
+/* Makes a copy of a set, the set of these numbers, in any order, some of them more than once. It has to be freed. Where
+ * an allocation fails there is none. Memory for two numbers for each is taken meanwhile, and not for a copy. */
+RANGE_SET_STATUS range_set_u32_chunked_clone(range_set_u32_chunked set, range_set_u32_chunked *copy);
+RANGE_SET_STATUS range_set_u32_chunked_from_values(const uint32_t *values, size_t count, range_set_u32_chunked *set);
 
 /* Gives the memory back, and leaves {NULL}. Does nothing where `set` is null or no set. */
 void range_set_u32_chunked_free(range_set_u32_chunked *set);
@@ -1173,7 +1263,37 @@ bool range_set_u32_chunked_last(range_set_u32_chunked set, range_set_u32_range *
 bool range_set_u32_chunked_prev_member(range_set_u32_chunked set, uint32_t from, uint32_t *previous);
 bool range_set_u32_chunked_prev_gap(range_set_u32_chunked set, uint32_t from, uint32_t *previous);
 
-/* The same, and each looks at the boundaries one by one: those below `at`, or up to the result, or all. */
+/* As the calls of these names for lists, of two sets in chunks, and with `_list` of one and a list. Each makes a search
+ * in the set of more boundaries for each range of the other, up to the answer; `chunked_equal` goes over both. */
+bool range_set_u32_chunked_intersects(range_set_u32_chunked a, range_set_u32_chunked b);
+bool range_set_u32_chunked_is_subset(range_set_u32_chunked a, range_set_u32_chunked b);
+bool range_set_u32_chunked_equal(range_set_u32_chunked a, range_set_u32_chunked b);
+bool range_set_u32_chunked_intersects_list(range_set_u32_chunked set, range_set_u32 list);
+bool range_set_u32_chunked_is_subset_list(range_set_u32_chunked set, range_set_u32 list);
+bool range_set_u32_chunked_is_superset_list(range_set_u32_chunked set, range_set_u32 list);
+
+RANGE_SET_INLINE bool range_set_u32_chunked_is_disjoint(range_set_u32_chunked a, range_set_u32_chunked b)
+{
+    return !range_set_u32_chunked_intersects(a, b);
+}
+
+RANGE_SET_INLINE bool range_set_u32_chunked_is_superset(range_set_u32_chunked a, range_set_u32_chunked b)
+{
+    return range_set_u32_chunked_is_subset(b, a);
+}
+
+RANGE_SET_INLINE bool range_set_u32_chunked_is_disjoint_list(range_set_u32_chunked set, range_set_u32 list)
+{
+    return !range_set_u32_chunked_intersects_list(set, list);
+}
+
+RANGE_SET_INLINE bool range_set_u32_chunked_equal_list(range_set_u32_chunked set, range_set_u32 list)
+{
+    return range_set_u32_chunked_is_subset_list(set, list) && range_set_u32_chunked_is_superset_list(set, list);
+}
+
+/* As the calls of these names for lists, and each looks at the boundaries one by one: those below `at`, or up to the
+ * result, or all. */
 uint64_t range_set_u32_chunked_rank(range_set_u32_chunked set, uint32_t at);
 bool range_set_u32_chunked_select(range_set_u32_chunked set, uint64_t k, uint32_t *at);
 bool range_set_u32_chunked_covered(range_set_u32_chunked set, uint64_t *count);
@@ -1194,12 +1314,16 @@ bool range_set_u32_chunked_next(range_set_u32_chunked set, uint32_t from, range_
  * enough it remembers only for the last `align` that no multiple fits. Without memory it remembers less. */
 bool range_set_u32_chunked_first_fit(range_set_u32_chunked *set, uint32_t start, uint32_t end, uint32_t count,
                                      uint32_t *first);
+bool range_set_u32_chunked_first_fit_from(range_set_u32_chunked *set, uint32_t start, uint32_t count, uint32_t *first);
 bool range_set_u32_chunked_first_fit_aligned(range_set_u32_chunked *set, uint32_t start, uint32_t end, uint32_t count,
                                              uint32_t align, uint32_t *first);
+bool range_set_u32_chunked_first_fit_aligned_from(range_set_u32_chunked *set, uint32_t start, uint32_t count,
+                                                  uint32_t align, uint32_t *first);
 
 /* As `first_run`. It remembers nothing, and looks at each range from `start` on, up to the answer. */
 bool range_set_u32_chunked_first_run(range_set_u32_chunked set, uint32_t start, uint32_t end, uint32_t count,
                                      uint32_t *first);
+bool range_set_u32_chunked_first_run_from(range_set_u32_chunked set, uint32_t start, uint32_t count, uint32_t *first);
 
 /* Writes the ranges that share a number with `start` to below `end`, whole, as a list. Where there are more than the
  * buffer has room for it writes the first room / 2, and returns RANGE_SET_MORE; where it has room for none,
@@ -1228,6 +1352,9 @@ size_t range_set_u32_chunked_boundaries_len(range_set_u32_chunked set);
 RANGE_SET_STATUS range_set_u32_chunked_copy(range_set_u32_chunked set, uint32_t *out, size_t room,
                                             range_set_u32 *result);
 
+/* Writes the set as a text, as `print`, without a list of it. */
+RANGE_SET_STATUS range_set_u32_chunked_print(range_set_u32_chunked set, char *text, size_t room, size_t *len);
+
 /* Writes the numbers from `start` to below `end` that are no members. It reads the ranges there some at a time. */
 RANGE_SET_STATUS range_set_u32_chunked_gaps(range_set_u32_chunked set, uint32_t start, uint32_t end, uint32_t *out,
                                             size_t room, range_set_u32 *result);
@@ -1237,6 +1364,10 @@ RANGE_SET_STATUS range_set_u32_chunked_gaps(range_set_u32_chunked set, uint32_t 
  * and new chunks of both sets. Where an allocation fails, or `other` isn't strictly sorted (RANGE_SET_NOT_SORTED), the
  * set is as it was. */
 RANGE_SET_STATUS range_set_u32_chunked_combine(range_set_u32_chunked *set, range_set_u32 other, unsigned keep);
+
+/* The same with another set in chunks, of which it makes a list meanwhile. It may be the set itself. */
+RANGE_SET_STATUS range_set_u32_chunked_combine_chunked(range_set_u32_chunked *set, range_set_u32_chunked other,
+                                                       unsigned keep);
 
 /* As `insert`, `remove`, `chunked_insert` and `chunked_remove`, and where that was done `changed` is whether the set
  * has other members now. */
@@ -1280,6 +1411,9 @@ RANGE_SET_STATUS range_map_u32_remove(range_map_u32 *map, uint32_t start, uint32
 RANGE_SET_STATUS range_map_u32_insert_from(range_map_u32 *map, uint32_t start, uint64_t value);
 RANGE_SET_STATUS range_map_u32_remove_from(range_map_u32 *map, uint32_t start);
 
+/* Takes all values away. Does nothing where `map` is null or no map. */
+void range_map_u32_clear(range_map_u32 *map);
+
 /* Whether the key has a value, and then which. `value` may be null. */
 bool range_map_u32_get(range_map_u32 map, uint32_t key, uint64_t *value);
 
@@ -1295,6 +1429,31 @@ bool range_map_u32_next(range_map_u32 map, uint32_t from, range_map_u32_stretch 
 
 /* Writes the first of those ranges, as many as there is room for, and returns how many these are: by one search. */
 size_t range_map_u32_next_ranges(range_map_u32 map, uint32_t from, range_map_u32_stretch *out, size_t room);
+
+/* Writes the first of those that share a key with `start` to below `end`, whole, in the same way. The others are those
+ * from the end of the last one on. */
+size_t range_map_u32_overlapping(range_map_u32 map, uint32_t start, uint32_t end, range_map_u32_stretch *out,
+                                 size_t room);
+
+/* Whether a key has a value, and then the first range of such keys, the last one, and the range from the start of the
+ * first to the end of the last. */
+bool range_map_u32_first(range_map_u32 map, range_map_u32_stretch *stretch);
+bool range_map_u32_last(range_map_u32 map, range_map_u32_stretch *stretch);
+bool range_map_u32_span(range_map_u32 map, range_set_u32_range *range);
+
+/* Writes the set of the keys from `start` to below `end` that have no value, as other calls write sets. Makes a search
+ * for each range and each gap there. */
+RANGE_SET_STATUS range_map_u32_gaps(range_map_u32 map, uint32_t start, uint32_t end, uint32_t *out, size_t room,
+                                    range_set_u32 *result);
+
+/* As the calls of these names for sets, where the keys that have a value are the members. They search as `gaps`. */
+bool range_map_u32_first_fit(range_map_u32 map, uint32_t start, uint32_t end, uint32_t count, uint32_t *first);
+bool range_map_u32_first_fit_from(range_map_u32 map, uint32_t start, uint32_t count, uint32_t *first);
+bool range_map_u32_first_fit_aligned(range_map_u32 map, uint32_t start, uint32_t end, uint32_t count, uint32_t align,
+                                     uint32_t *first);
+bool range_map_u32_first_fit_aligned_from(range_map_u32 map, uint32_t start, uint32_t count, uint32_t align,
+                                          uint32_t *first);
+bool range_map_u32_covered(range_map_u32 map, uint64_t *count);
 
 /* Makes a map of `count` ranges, a start and an end each, with their values; where they overlap the later one's holds.
  * Makes a copy. They have to be freed. Where an allocation fails there is none. */
@@ -1600,16 +1759,21 @@ RANGE_SET_STATUS range_set_i64_parse_by(const char *text, size_t text_len, char 
 
 /* Whether there is a number from which on `count` numbers lie in `start` to below `end` and none of them is a member,
  * and then the least one: the first place where they fit. Where there is none `first` is as it was. It may be null.
- * A count of 0 fits at `start`, if end >= start. Looks at each boundary from `start` on, up to the answer. */
+ * A count of 0 fits at `start`, if end >= start. With `_from` they may lie anywhere from `start` on, up to the greatest
+ * number. Looks at each boundary from `start` on, up to the answer. */
 bool range_set_i64_first_fit(range_set_i64 set, int64_t start, int64_t end, uint64_t count, int64_t *first);
+bool range_set_i64_first_fit_from(range_set_i64 set, int64_t start, uint64_t count, int64_t *first);
 
 /* The same, but only where the first is a multiple of `align`, above 0 or below. An `align` of 0 fits nowhere. */
 bool range_set_i64_first_fit_aligned(range_set_i64 set, int64_t start, int64_t end, uint64_t count, uint64_t align,
                                      int64_t *first);
+bool range_set_i64_first_fit_aligned_from(range_set_i64 set, int64_t start, uint64_t count, uint64_t align,
+                                          int64_t *first);
 
 /* Whether `count` members in a row lie in `start` to below `end`, and then the least number that such begin with. Else,
  * and with a count of 0, as `first_fit`. Looks at each boundary from `start` on, up to the answer. */
 bool range_set_i64_first_run(range_set_i64 set, int64_t start, int64_t end, uint64_t count, int64_t *first);
+bool range_set_i64_first_run_from(range_set_i64 set, int64_t start, uint64_t count, int64_t *first);
 
 /* ---- Sets of int64_t that change in their buffer ---- */
 
@@ -1724,7 +1888,7 @@ RANGE_SET_INLINE void range_set_i64_owned_clear(range_set_i64_owned *owned)
  * it takes about as long in a set of a million ranges as in a small one. Its memory comes from malloc, unless
  * `range_set_use_allocator` named another. The field is for the library alone. {NULL} is no set: it has no member, and
  * no call changes it. Calls that take a set itself only read, so several threads may make them at once. Those that take
- * its address write, `chunked_first_fit` and `chunked_first_fit_aligned` too, which remember: no other call may be
+ * its address write, `chunked_first_fit` and its like too, which remember: no other call may be
  * given the set meanwhile. Nothing is proved of a set that goes from one thread to another. */
 typedef struct range_set_i64_chunked {
     void *at;
@@ -1734,6 +1898,11 @@ typedef struct range_set_i64_chunked {
  * is none. A list that isn't strictly sorted is RANGE_SET_NOT_SORTED. */
 RANGE_SET_STATUS range_set_i64_chunked_new(range_set_i64_chunked *set);
 RANGE_SET_STATUS range_set_i64_chunked_of(range_set_i64 list, range_set_i64_chunked *set);
+
+/* Makes a copy of a set, the set of these numbers, in any order, some of them more than once. It has to be freed. Where
+ * an allocation fails there is none. Memory for two numbers for each is taken meanwhile, and not for a copy. */
+RANGE_SET_STATUS range_set_i64_chunked_clone(range_set_i64_chunked set, range_set_i64_chunked *copy);
+RANGE_SET_STATUS range_set_i64_chunked_from_values(const int64_t *values, size_t count, range_set_i64_chunked *set);
 
 /* Gives the memory back, and leaves {NULL}. Does nothing where `set` is null or no set. */
 void range_set_i64_chunked_free(range_set_i64_chunked *set);
@@ -1760,7 +1929,37 @@ bool range_set_i64_chunked_last(range_set_i64_chunked set, range_set_i64_range *
 bool range_set_i64_chunked_prev_member(range_set_i64_chunked set, int64_t from, int64_t *previous);
 bool range_set_i64_chunked_prev_gap(range_set_i64_chunked set, int64_t from, int64_t *previous);
 
-/* The same, and each looks at the boundaries one by one: those below `at`, or up to the result, or all. */
+/* As the calls of these names for lists, of two sets in chunks, and with `_list` of one and a list. Each makes a search
+ * in the set of more boundaries for each range of the other, up to the answer; `chunked_equal` goes over both. */
+bool range_set_i64_chunked_intersects(range_set_i64_chunked a, range_set_i64_chunked b);
+bool range_set_i64_chunked_is_subset(range_set_i64_chunked a, range_set_i64_chunked b);
+bool range_set_i64_chunked_equal(range_set_i64_chunked a, range_set_i64_chunked b);
+bool range_set_i64_chunked_intersects_list(range_set_i64_chunked set, range_set_i64 list);
+bool range_set_i64_chunked_is_subset_list(range_set_i64_chunked set, range_set_i64 list);
+bool range_set_i64_chunked_is_superset_list(range_set_i64_chunked set, range_set_i64 list);
+
+RANGE_SET_INLINE bool range_set_i64_chunked_is_disjoint(range_set_i64_chunked a, range_set_i64_chunked b)
+{
+    return !range_set_i64_chunked_intersects(a, b);
+}
+
+RANGE_SET_INLINE bool range_set_i64_chunked_is_superset(range_set_i64_chunked a, range_set_i64_chunked b)
+{
+    return range_set_i64_chunked_is_subset(b, a);
+}
+
+RANGE_SET_INLINE bool range_set_i64_chunked_is_disjoint_list(range_set_i64_chunked set, range_set_i64 list)
+{
+    return !range_set_i64_chunked_intersects_list(set, list);
+}
+
+RANGE_SET_INLINE bool range_set_i64_chunked_equal_list(range_set_i64_chunked set, range_set_i64 list)
+{
+    return range_set_i64_chunked_is_subset_list(set, list) && range_set_i64_chunked_is_superset_list(set, list);
+}
+
+/* As the calls of these names for lists, and each looks at the boundaries one by one: those below `at`, or up to the
+ * result, or all. */
 uint64_t range_set_i64_chunked_rank(range_set_i64_chunked set, int64_t at);
 bool range_set_i64_chunked_select(range_set_i64_chunked set, uint64_t k, int64_t *at);
 bool range_set_i64_chunked_covered(range_set_i64_chunked set, uint64_t *count);
@@ -1781,12 +1980,16 @@ bool range_set_i64_chunked_next(range_set_i64_chunked set, int64_t from, range_s
  * enough it remembers only for the last `align` that no multiple fits. Without memory it remembers less. */
 bool range_set_i64_chunked_first_fit(range_set_i64_chunked *set, int64_t start, int64_t end, uint64_t count,
                                      int64_t *first);
+bool range_set_i64_chunked_first_fit_from(range_set_i64_chunked *set, int64_t start, uint64_t count, int64_t *first);
 bool range_set_i64_chunked_first_fit_aligned(range_set_i64_chunked *set, int64_t start, int64_t end, uint64_t count,
                                              uint64_t align, int64_t *first);
+bool range_set_i64_chunked_first_fit_aligned_from(range_set_i64_chunked *set, int64_t start, uint64_t count,
+                                                  uint64_t align, int64_t *first);
 
 /* As `first_run`. It remembers nothing, and looks at each range from `start` on, up to the answer. */
 bool range_set_i64_chunked_first_run(range_set_i64_chunked set, int64_t start, int64_t end, uint64_t count,
                                      int64_t *first);
+bool range_set_i64_chunked_first_run_from(range_set_i64_chunked set, int64_t start, uint64_t count, int64_t *first);
 
 /* Writes the ranges that share a number with `start` to below `end`, whole, as a list. Where there are more than the
  * buffer has room for it writes the first room / 2, and returns RANGE_SET_MORE; where it has room for none,
@@ -1815,6 +2018,9 @@ size_t range_set_i64_chunked_boundaries_len(range_set_i64_chunked set);
 RANGE_SET_STATUS range_set_i64_chunked_copy(range_set_i64_chunked set, int64_t *out, size_t room,
                                             range_set_i64 *result);
 
+/* Writes the set as a text, as `print`, without a list of it. */
+RANGE_SET_STATUS range_set_i64_chunked_print(range_set_i64_chunked set, char *text, size_t room, size_t *len);
+
 /* Writes the numbers from `start` to below `end` that are no members. It reads the ranges there some at a time. */
 RANGE_SET_STATUS range_set_i64_chunked_gaps(range_set_i64_chunked set, int64_t start, int64_t end, int64_t *out,
                                             size_t room, range_set_i64 *result);
@@ -1824,6 +2030,10 @@ RANGE_SET_STATUS range_set_i64_chunked_gaps(range_set_i64_chunked set, int64_t s
  * and new chunks of both sets. Where an allocation fails, or `other` isn't strictly sorted (RANGE_SET_NOT_SORTED), the
  * set is as it was. */
 RANGE_SET_STATUS range_set_i64_chunked_combine(range_set_i64_chunked *set, range_set_i64 other, unsigned keep);
+
+/* The same with another set in chunks, of which it makes a list meanwhile. It may be the set itself. */
+RANGE_SET_STATUS range_set_i64_chunked_combine_chunked(range_set_i64_chunked *set, range_set_i64_chunked other,
+                                                       unsigned keep);
 
 /* As `insert`, `remove`, `chunked_insert` and `chunked_remove`, and where that was done `changed` is whether the set
  * has other members now. */
@@ -1867,6 +2077,9 @@ RANGE_SET_STATUS range_map_i64_remove(range_map_i64 *map, int64_t start, int64_t
 RANGE_SET_STATUS range_map_i64_insert_from(range_map_i64 *map, int64_t start, uint64_t value);
 RANGE_SET_STATUS range_map_i64_remove_from(range_map_i64 *map, int64_t start);
 
+/* Takes all values away. Does nothing where `map` is null or no map. */
+void range_map_i64_clear(range_map_i64 *map);
+
 /* Whether the key has a value, and then which. `value` may be null. */
 bool range_map_i64_get(range_map_i64 map, int64_t key, uint64_t *value);
 
@@ -1882,6 +2095,31 @@ bool range_map_i64_next(range_map_i64 map, int64_t from, range_map_i64_stretch *
 
 /* Writes the first of those ranges, as many as there is room for, and returns how many these are: by one search. */
 size_t range_map_i64_next_ranges(range_map_i64 map, int64_t from, range_map_i64_stretch *out, size_t room);
+
+/* Writes the first of those that share a key with `start` to below `end`, whole, in the same way. The others are those
+ * from the end of the last one on. */
+size_t range_map_i64_overlapping(range_map_i64 map, int64_t start, int64_t end, range_map_i64_stretch *out,
+                                 size_t room);
+
+/* Whether a key has a value, and then the first range of such keys, the last one, and the range from the start of the
+ * first to the end of the last. */
+bool range_map_i64_first(range_map_i64 map, range_map_i64_stretch *stretch);
+bool range_map_i64_last(range_map_i64 map, range_map_i64_stretch *stretch);
+bool range_map_i64_span(range_map_i64 map, range_set_i64_range *range);
+
+/* Writes the set of the keys from `start` to below `end` that have no value, as other calls write sets. Makes a search
+ * for each range and each gap there. */
+RANGE_SET_STATUS range_map_i64_gaps(range_map_i64 map, int64_t start, int64_t end, int64_t *out, size_t room,
+                                    range_set_i64 *result);
+
+/* As the calls of these names for sets, where the keys that have a value are the members. They search as `gaps`. */
+bool range_map_i64_first_fit(range_map_i64 map, int64_t start, int64_t end, uint64_t count, int64_t *first);
+bool range_map_i64_first_fit_from(range_map_i64 map, int64_t start, uint64_t count, int64_t *first);
+bool range_map_i64_first_fit_aligned(range_map_i64 map, int64_t start, int64_t end, uint64_t count, uint64_t align,
+                                     int64_t *first);
+bool range_map_i64_first_fit_aligned_from(range_map_i64 map, int64_t start, uint64_t count, uint64_t align,
+                                          int64_t *first);
+bool range_map_i64_covered(range_map_i64 map, uint64_t *count);
 
 /* Makes a map of `count` ranges, a start and an end each, with their values; where they overlap the later one's holds.
  * Makes a copy. They have to be freed. Where an allocation fails there is none. */
@@ -2187,16 +2425,21 @@ RANGE_SET_STATUS range_set_u64_parse_by(const char *text, size_t text_len, char 
 
 /* Whether there is a number from which on `count` numbers lie in `start` to below `end` and none of them is a member,
  * and then the least one: the first place where they fit. Where there is none `first` is as it was. It may be null.
- * A count of 0 fits at `start`, if end >= start. Looks at each boundary from `start` on, up to the answer. */
+ * A count of 0 fits at `start`, if end >= start. With `_from` they may lie anywhere from `start` on, up to the greatest
+ * number. Looks at each boundary from `start` on, up to the answer. */
 bool range_set_u64_first_fit(range_set_u64 set, uint64_t start, uint64_t end, uint64_t count, uint64_t *first);
+bool range_set_u64_first_fit_from(range_set_u64 set, uint64_t start, uint64_t count, uint64_t *first);
 
 /* The same, but only where the first is a multiple of `align`, above 0 or below. An `align` of 0 fits nowhere. */
 bool range_set_u64_first_fit_aligned(range_set_u64 set, uint64_t start, uint64_t end, uint64_t count, uint64_t align,
                                      uint64_t *first);
+bool range_set_u64_first_fit_aligned_from(range_set_u64 set, uint64_t start, uint64_t count, uint64_t align,
+                                          uint64_t *first);
 
 /* Whether `count` members in a row lie in `start` to below `end`, and then the least number that such begin with. Else,
  * and with a count of 0, as `first_fit`. Looks at each boundary from `start` on, up to the answer. */
 bool range_set_u64_first_run(range_set_u64 set, uint64_t start, uint64_t end, uint64_t count, uint64_t *first);
+bool range_set_u64_first_run_from(range_set_u64 set, uint64_t start, uint64_t count, uint64_t *first);
 
 /* ---- Sets of uint64_t that change in their buffer ---- */
 
@@ -2311,7 +2554,7 @@ RANGE_SET_INLINE void range_set_u64_owned_clear(range_set_u64_owned *owned)
  * it takes about as long in a set of a million ranges as in a small one. Its memory comes from malloc, unless
  * `range_set_use_allocator` named another. The field is for the library alone. {NULL} is no set: it has no member, and
  * no call changes it. Calls that take a set itself only read, so several threads may make them at once. Those that take
- * its address write, `chunked_first_fit` and `chunked_first_fit_aligned` too, which remember: no other call may be
+ * its address write, `chunked_first_fit` and its like too, which remember: no other call may be
  * given the set meanwhile. Nothing is proved of a set that goes from one thread to another. */
 typedef struct range_set_u64_chunked {
     void *at;
@@ -2321,6 +2564,11 @@ typedef struct range_set_u64_chunked {
  * is none. A list that isn't strictly sorted is RANGE_SET_NOT_SORTED. */
 RANGE_SET_STATUS range_set_u64_chunked_new(range_set_u64_chunked *set);
 RANGE_SET_STATUS range_set_u64_chunked_of(range_set_u64 list, range_set_u64_chunked *set);
+
+/* Makes a copy of a set, the set of these numbers, in any order, some of them more than once. It has to be freed. Where
+ * an allocation fails there is none. Memory for two numbers for each is taken meanwhile, and not for a copy. */
+RANGE_SET_STATUS range_set_u64_chunked_clone(range_set_u64_chunked set, range_set_u64_chunked *copy);
+RANGE_SET_STATUS range_set_u64_chunked_from_values(const uint64_t *values, size_t count, range_set_u64_chunked *set);
 
 /* Gives the memory back, and leaves {NULL}. Does nothing where `set` is null or no set. */
 void range_set_u64_chunked_free(range_set_u64_chunked *set);
@@ -2347,7 +2595,37 @@ bool range_set_u64_chunked_last(range_set_u64_chunked set, range_set_u64_range *
 bool range_set_u64_chunked_prev_member(range_set_u64_chunked set, uint64_t from, uint64_t *previous);
 bool range_set_u64_chunked_prev_gap(range_set_u64_chunked set, uint64_t from, uint64_t *previous);
 
-/* The same, and each looks at the boundaries one by one: those below `at`, or up to the result, or all. */
+/* As the calls of these names for lists, of two sets in chunks, and with `_list` of one and a list. Each makes a search
+ * in the set of more boundaries for each range of the other, up to the answer; `chunked_equal` goes over both. */
+bool range_set_u64_chunked_intersects(range_set_u64_chunked a, range_set_u64_chunked b);
+bool range_set_u64_chunked_is_subset(range_set_u64_chunked a, range_set_u64_chunked b);
+bool range_set_u64_chunked_equal(range_set_u64_chunked a, range_set_u64_chunked b);
+bool range_set_u64_chunked_intersects_list(range_set_u64_chunked set, range_set_u64 list);
+bool range_set_u64_chunked_is_subset_list(range_set_u64_chunked set, range_set_u64 list);
+bool range_set_u64_chunked_is_superset_list(range_set_u64_chunked set, range_set_u64 list);
+
+RANGE_SET_INLINE bool range_set_u64_chunked_is_disjoint(range_set_u64_chunked a, range_set_u64_chunked b)
+{
+    return !range_set_u64_chunked_intersects(a, b);
+}
+
+RANGE_SET_INLINE bool range_set_u64_chunked_is_superset(range_set_u64_chunked a, range_set_u64_chunked b)
+{
+    return range_set_u64_chunked_is_subset(b, a);
+}
+
+RANGE_SET_INLINE bool range_set_u64_chunked_is_disjoint_list(range_set_u64_chunked set, range_set_u64 list)
+{
+    return !range_set_u64_chunked_intersects_list(set, list);
+}
+
+RANGE_SET_INLINE bool range_set_u64_chunked_equal_list(range_set_u64_chunked set, range_set_u64 list)
+{
+    return range_set_u64_chunked_is_subset_list(set, list) && range_set_u64_chunked_is_superset_list(set, list);
+}
+
+/* As the calls of these names for lists, and each looks at the boundaries one by one: those below `at`, or up to the
+ * result, or all. */
 uint64_t range_set_u64_chunked_rank(range_set_u64_chunked set, uint64_t at);
 bool range_set_u64_chunked_select(range_set_u64_chunked set, uint64_t k, uint64_t *at);
 bool range_set_u64_chunked_covered(range_set_u64_chunked set, uint64_t *count);
@@ -2368,12 +2646,16 @@ bool range_set_u64_chunked_next(range_set_u64_chunked set, uint64_t from, range_
  * enough it remembers only for the last `align` that no multiple fits. Without memory it remembers less. */
 bool range_set_u64_chunked_first_fit(range_set_u64_chunked *set, uint64_t start, uint64_t end, uint64_t count,
                                      uint64_t *first);
+bool range_set_u64_chunked_first_fit_from(range_set_u64_chunked *set, uint64_t start, uint64_t count, uint64_t *first);
 bool range_set_u64_chunked_first_fit_aligned(range_set_u64_chunked *set, uint64_t start, uint64_t end, uint64_t count,
                                              uint64_t align, uint64_t *first);
+bool range_set_u64_chunked_first_fit_aligned_from(range_set_u64_chunked *set, uint64_t start, uint64_t count,
+                                                  uint64_t align, uint64_t *first);
 
 /* As `first_run`. It remembers nothing, and looks at each range from `start` on, up to the answer. */
 bool range_set_u64_chunked_first_run(range_set_u64_chunked set, uint64_t start, uint64_t end, uint64_t count,
                                      uint64_t *first);
+bool range_set_u64_chunked_first_run_from(range_set_u64_chunked set, uint64_t start, uint64_t count, uint64_t *first);
 
 /* Writes the ranges that share a number with `start` to below `end`, whole, as a list. Where there are more than the
  * buffer has room for it writes the first room / 2, and returns RANGE_SET_MORE; where it has room for none,
@@ -2402,6 +2684,9 @@ size_t range_set_u64_chunked_boundaries_len(range_set_u64_chunked set);
 RANGE_SET_STATUS range_set_u64_chunked_copy(range_set_u64_chunked set, uint64_t *out, size_t room,
                                             range_set_u64 *result);
 
+/* Writes the set as a text, as `print`, without a list of it. */
+RANGE_SET_STATUS range_set_u64_chunked_print(range_set_u64_chunked set, char *text, size_t room, size_t *len);
+
 /* Writes the numbers from `start` to below `end` that are no members. It reads the ranges there some at a time. */
 RANGE_SET_STATUS range_set_u64_chunked_gaps(range_set_u64_chunked set, uint64_t start, uint64_t end, uint64_t *out,
                                             size_t room, range_set_u64 *result);
@@ -2411,6 +2696,10 @@ RANGE_SET_STATUS range_set_u64_chunked_gaps(range_set_u64_chunked set, uint64_t 
  * and new chunks of both sets. Where an allocation fails, or `other` isn't strictly sorted (RANGE_SET_NOT_SORTED), the
  * set is as it was. */
 RANGE_SET_STATUS range_set_u64_chunked_combine(range_set_u64_chunked *set, range_set_u64 other, unsigned keep);
+
+/* The same with another set in chunks, of which it makes a list meanwhile. It may be the set itself. */
+RANGE_SET_STATUS range_set_u64_chunked_combine_chunked(range_set_u64_chunked *set, range_set_u64_chunked other,
+                                                       unsigned keep);
 
 /* As `insert`, `remove`, `chunked_insert` and `chunked_remove`, and where that was done `changed` is whether the set
  * has other members now. */
@@ -2454,6 +2743,9 @@ RANGE_SET_STATUS range_map_u64_remove(range_map_u64 *map, uint64_t start, uint64
 RANGE_SET_STATUS range_map_u64_insert_from(range_map_u64 *map, uint64_t start, uint64_t value);
 RANGE_SET_STATUS range_map_u64_remove_from(range_map_u64 *map, uint64_t start);
 
+/* Takes all values away. Does nothing where `map` is null or no map. */
+void range_map_u64_clear(range_map_u64 *map);
+
 /* Whether the key has a value, and then which. `value` may be null. */
 bool range_map_u64_get(range_map_u64 map, uint64_t key, uint64_t *value);
 
@@ -2469,6 +2761,31 @@ bool range_map_u64_next(range_map_u64 map, uint64_t from, range_map_u64_stretch 
 
 /* Writes the first of those ranges, as many as there is room for, and returns how many these are: by one search. */
 size_t range_map_u64_next_ranges(range_map_u64 map, uint64_t from, range_map_u64_stretch *out, size_t room);
+
+/* Writes the first of those that share a key with `start` to below `end`, whole, in the same way. The others are those
+ * from the end of the last one on. */
+size_t range_map_u64_overlapping(range_map_u64 map, uint64_t start, uint64_t end, range_map_u64_stretch *out,
+                                 size_t room);
+
+/* Whether a key has a value, and then the first range of such keys, the last one, and the range from the start of the
+ * first to the end of the last. */
+bool range_map_u64_first(range_map_u64 map, range_map_u64_stretch *stretch);
+bool range_map_u64_last(range_map_u64 map, range_map_u64_stretch *stretch);
+bool range_map_u64_span(range_map_u64 map, range_set_u64_range *range);
+
+/* Writes the set of the keys from `start` to below `end` that have no value, as other calls write sets. Makes a search
+ * for each range and each gap there. */
+RANGE_SET_STATUS range_map_u64_gaps(range_map_u64 map, uint64_t start, uint64_t end, uint64_t *out, size_t room,
+                                    range_set_u64 *result);
+
+/* As the calls of these names for sets, where the keys that have a value are the members. They search as `gaps`. */
+bool range_map_u64_first_fit(range_map_u64 map, uint64_t start, uint64_t end, uint64_t count, uint64_t *first);
+bool range_map_u64_first_fit_from(range_map_u64 map, uint64_t start, uint64_t count, uint64_t *first);
+bool range_map_u64_first_fit_aligned(range_map_u64 map, uint64_t start, uint64_t end, uint64_t count, uint64_t align,
+                                     uint64_t *first);
+bool range_map_u64_first_fit_aligned_from(range_map_u64 map, uint64_t start, uint64_t count, uint64_t align,
+                                          uint64_t *first);
+bool range_map_u64_covered(range_map_u64 map, uint64_t *count);
 
 /* Makes a map of `count` ranges, a start and an end each, with their values; where they overlap the later one's holds.
  * Makes a copy. They have to be freed. Where an allocation fails there is none. */

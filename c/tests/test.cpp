@@ -84,6 +84,33 @@ template <class T, class Set = range_set<T>> static std::string text(const Set &
     return text;
 }
 
+// Where numbers fit, and are members, in a range that has no end or has the greatest number for one.
+template <class T> void fits_to_the_end()
+{
+    using range_sets::from;
+    const T most = std::numeric_limits<T>::max();
+    const range_set<T> set{{most - 5, most - 3}};
+    range_sets::chunked_range_set<T> chunks(set);
+    const range<T> last = from(most - 5), few = from(most - 2), all = from(T(0)), below = {most - 5, most, true};
+    const struct {
+        range<T> within;
+        unsigned count, align;
+        std::optional<T> fit, aligned, run;
+    } rows[] = {{last, 4, 4, most - 3, most - 3, {}}, {last, 2, 2, most - 3, most - 3, most - 5}, {few, 4, 1, {}, {}, {}},
+        {few, 2, 2, most - 2, most - 1, {}}, {few, 0, 0, most - 2, {}, most - 2}, {all, 2, 3, T(0), T(0), most - 5},
+        {below, 4, 1, {}, {}, {}}, {below, 3, 1, most - 3, most - 3, {}}, {below, 2, 4, most - 3, most - 3, most - 5}};
+    for (const auto &row : rows) {
+        check(
+            set.first_fit(row.within, row.count) == row.fit && chunks.first_fit(row.within, row.count) == row.fit, "first_fit in a range");
+        check(set.first_fit_aligned(row.within, row.count, row.align) == row.aligned
+                  && chunks.first_fit_aligned(row.within, row.count, row.align) == row.aligned,
+            "first_fit_aligned in a range");
+        check(
+            set.first_run(row.within, row.count) == row.run && chunks.first_run(row.within, row.count) == row.run, "first_run in a range");
+    }
+    check(set.first_fit(from(most - 5), 4) == most - 3 && chunks.first_fit(from(9), 4) == T(9), "first_fit from a number on");
+}
+
 template <class T> static void rows()
 {
     // What can be gone over once only makes no set, since it would be gone over twice.
@@ -940,6 +967,7 @@ template <class T> static void all()
 {
     widest<T>();
     rows<T>();
+    fits_to_the_end<T>();
     sources<T>();
     other_numbers<T>();
     room<T>();

@@ -92,6 +92,10 @@ static void TEST(of_others)(void)
     TEST(chunked_gaps)(set, a, MOST - 1, MOST);
     TEST(chunked_gaps)(none, TEST(set)(NULL, 0), LEAST, MOST);
     TEST(chunked_combined)(a, b);
+    TEST(chunked_beside)(a, b);
+    TEST(chunked_beside)(a, a);
+    TEST(chunked_beside)(a, TEST(set)(first, a.len / 2));
+    TEST(chunked_printed)(a);
     for (p = 0; p < 4; p++) TEST(chunked_combined_few)();
     /* No range, one without an end, one, and two, which the set may have. */
     for (p = 0; p <= 3; p++) TEST(chunked_combined)(a, TEST(set)(few, p));
@@ -197,6 +201,7 @@ static void TEST(all)(long cases)
     TEST(chunked_many)();
     TEST(beyond_a_chunk)();
     TEST(chunked_fits_far)();
+    TEST(fits_to_the_end)();
     TEST(chunked_none)();
     TEST(chunked_unsorted)();
     TEST(parsed_in_any_order)();
@@ -208,6 +213,7 @@ static void TEST(all)(long cases)
     for (i = 0; i < cases / 10; i++) TEST(members)();
     for (i = 0; i < cases / 10; i++) TEST(from_values)();
     for (i = 0; i < cases / 10; i++) TEST(owned)();
+    for (i = 0; i <= cases / 100; i++) TEST(chunked_of_values)();
     for (i = 0; i < cases / 100; i++) TEST(chunked)();
     for (i = 0; i <= cases / 100; i++) TEST(of_others)();
     for (i = 0; i < cases / 10; i++) TEST(unsorted_searches)();

@@ -308,6 +308,76 @@ static void TEST(chunked_fits_far)(void)
     CALL(chunked_free)(&set);
 }
 
+/* Where numbers fit, or are members, up to the greatest one: a list, the same in chunks, and of fits a map whose keys have values there. */
+static void TEST(fits_to_the_end)(void)
+{
+    static const NUMBER few[] = {LEAST, LEAST + 2, MOST - 5, MOST - 3}, open[] = {MOST - 7}, all[] = {LEAST};
+    const COUNT most = (COUNT)((COUNT)MOST - (COUNT)LEAST);
+    enum { FIT, ALIGNED, RUN };
+    const struct {
+        const char *name;
+        int call;
+        const NUMBER *list;
+        size_t len;
+        NUMBER start;
+        COUNT count, align;
+        bool found;
+        NUMBER at;
+    } rows[] = {{"from: the last numbers", FIT, few, 4, MOST - 5, 4, 0, true, MOST - 3},
+        {"from: one more than the last", FIT, few, 4, MOST - 5, 5, 0, false, 77},
+        {"from: the greatest", FIT, few, 4, MOST, 1, 0, true, MOST}, {"from: past the greatest", FIT, few, 4, MOST, 2, 0, false, 77},
+        {"from: no number", FIT, few, 4, MOST - 4, 0, 0, true, MOST - 4}, {"from: a gap before", FIT, few, 4, LEAST, 5, 0, true, LEAST + 2},
+        {"from: all but one", FIT, NULL, 0, LEAST, most, 0, true, LEAST},
+        {"from: as many as there are", FIT, NULL, 0, LEAST + 1, most, 0, true, LEAST + 1},
+        {"from: one too many", FIT, NULL, 0, LEAST + 2, most, 0, false, 77}, {"from: no end", FIT, open, 1, MOST - 7, 1, 0, false, 77},
+        {"from: a multiple", ALIGNED, few, 4, MOST - 5, 4, 4, true, MOST - 3},
+        {"from: a multiple at the end", ALIGNED, few, 4, MOST - 2, 2, 2, true, MOST - 1},
+        {"from: no multiple left", ALIGNED, few, 4, MOST, 1, 2, false, 77}, {"from: of 0", ALIGNED, few, 4, LEAST, 1, 0, false, 77},
+        {"from: no number, no multiple", ALIGNED, few, 4, MOST, 0, 2, false, 77},
+        {"from: no number at a multiple", ALIGNED, few, 4, MOST - 4, 0, 4, true, MOST - 3},
+        {"from: members without an end", RUN, open, 1, LEAST, 8, 0, true, MOST - 7},
+        {"from: one member too many", RUN, open, 1, LEAST, 9, 0, false, 77}, {"from: a last member", RUN, open, 1, MOST, 1, 0, true, MOST},
+        {"from: members before", RUN, few, 4, LEAST + 1, 2, 0, true, MOST - 5},
+        {"from: all members but one", RUN, all, 1, LEAST, most, 0, true, LEAST}};
+    size_t row, i;
+    for (row = 0; row < sizeof rows / sizeof *rows; row++) {
+        const NUMBER start = rows[row].start;
+        const COUNT count = rows[row].count, align = rows[row].align;
+        const SET list = TEST(set)(rows[row].list, rows[row].len);
+        CHUNKED set;
+        MAP map;
+        NUMBER at[3] = {77, 77, 77};
+        bool found[6];
+        check(CALL(chunked_of)(list, &set) == RANGE_SET_DONE && MAP_CALL(new)(&map) == RANGE_SET_DONE, "from: made");
+        for (i = 0; i < list.len; i += 2)
+            check((i + 1 < list.len ? MAP_CALL(insert)(&map, list.boundaries[i], list.boundaries[i + 1], i)
+                                    : MAP_CALL(insert_from)(&map, list.boundaries[i], i))
+                      == RANGE_SET_DONE,
+                "from: values");
+        if (rows[row].call == FIT) {
+            found[0] = CALL(first_fit_from)(list, start, count, &at[0]), found[1] = CALL(first_fit_from)(list, start, count, NULL);
+            found[2] = CALL(chunked_first_fit_from)(&set, start, count, &at[1]);
+            found[3] = CALL(chunked_first_fit_from)(&set, start, count, NULL);
+            found[4] = MAP_CALL(first_fit_from)(map, start, count, &at[2]), found[5] = MAP_CALL(first_fit_from)(map, start, count, NULL);
+        } else if (rows[row].call == ALIGNED) {
+            found[0] = CALL(first_fit_aligned_from)(list, start, count, align, &at[0]);
+            found[1] = CALL(first_fit_aligned_from)(list, start, count, align, NULL);
+            found[2] = CALL(chunked_first_fit_aligned_from)(&set, start, count, align, &at[1]);
+            found[3] = CALL(chunked_first_fit_aligned_from)(&set, start, count, align, NULL);
+            found[4] = MAP_CALL(first_fit_aligned_from)(map, start, count, align, &at[2]);
+            found[5] = MAP_CALL(first_fit_aligned_from)(map, start, count, align, NULL);
+        } else {
+            found[0] = CALL(first_run_from)(list, start, count, &at[0]), found[1] = CALL(first_run_from)(list, start, count, NULL);
+            found[2] = CALL(chunked_first_run_from)(set, start, count, &at[1]);
+            found[3] = CALL(chunked_first_run_from)(set, start, count, NULL);
+            found[4] = found[5] = found[0], at[2] = at[0];
+        }
+        for (i = 0; i < 6; i++) check(found[i] == rows[row].found && at[i / 2] == rows[row].at, rows[row].name);
+        CALL(chunked_free)(&set);
+        MAP_CALL(free)(&map);
+    }
+}
+
 /* Many ranges, put in far from each other, so that there are many chunks; and all taken out again. */
 static void TEST(chunked_many)(void)
 {
@@ -403,6 +473,9 @@ static void TEST(chunked_none)(void)
     check(CALL(chunked_first_fit_aligned)(&none, 5, 9, 1, 4, &next) && next == 8, "no set: first_fit_aligned");
     check(CALL(chunked_first_fit_aligned)(NULL, 5, 9, 1, 4, NULL) && !CALL(chunked_first_fit_aligned)(NULL, 5, 8, 1, 4, NULL),
         "null: first_fit_aligned");
+    check(CALL(chunked_first_fit_from)(NULL, MOST, 1, &next) && next == MOST && !CALL(chunked_first_run_from)(none, MOST, 1, NULL)
+              && CALL(chunked_first_fit_aligned_from)(&none, MOST - 3, 4, 4, &next) && next == MOST - 3,
+        "no set: fits up to the greatest number");
     check(CALL(chunked_insert)(&none, 5, 6) == RANGE_SET_BAD_ARGUMENT && CALL(chunked_insert)(NULL, 5, 6) == RANGE_SET_BAD_ARGUMENT,
         "no set: insert");
     check(CALL(chunked_remove)(&none, 5, 6) == RANGE_SET_BAD_ARGUMENT && CALL(chunked_remove)(NULL, 5, 6) == RANGE_SET_BAD_ARGUMENT,

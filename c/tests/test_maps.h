@@ -43,6 +43,85 @@ static void TEST(next_ranges)(MAP map, const uint64_t *values)
     check(!MAP_CALL(next)((MAP){NULL}, LEAST, &it) && it.value == 77, "next: no map");
 }
 
+/* What is asked of the keys that have a value is answered as of their set, which is told by its boundaries: gaps with several rooms, fits,
+ * the number of keys, and the first range, the last one, and both. */
+static void TEST(as_set)(MAP map, const uint64_t *values)
+{
+    NUMBER keys[POINTS + 1], wanted[POINTS + 2], out[POINTS + 2], at, of_set;
+    const RANGE none = {77, 78, true};
+    const STRETCH no_range = {77, 78, 79, true, true, true};
+    STRETCH it = no_range, last = no_range;
+    RANGE range = none, first = none, end = none;
+    SET set, list, gaps;
+    uint64_t count = 77, of_list = 77;
+    size_t len = 0, room;
+    int i, p;
+    bool found;
+    for (p = 0; p < POINTS; p++)
+        if ((values[p] != 0) != (p > 0 && values[p - 1] != 0)) keys[len++] = TEST(key)(p);
+    check(CALL(view)(keys, len, &set) == RANGE_SET_DONE, "as a set");
+    found = len > 0;
+    check(CALL(covered)(set, &of_list) == MAP_CALL(covered)(map, &count) && count == of_list, "covered");
+    check(CALL(covered)(set, NULL) == MAP_CALL(covered)(map, NULL), "covered: no place");
+    check(MAP_CALL(first)(map, &it) == found && MAP_CALL(last)(map, &last) == found && MAP_CALL(span)(map, &range) == found, "first, last");
+    check(MAP_CALL(first)(map, NULL) == found && MAP_CALL(last)(map, NULL) == found && MAP_CALL(span)(map, NULL) == found,
+        "first, last, span: no place");
+    if (found) {
+        check(CALL(first)(set, &first) && CALL(last)(set, &end), "as a set: the first range and the last");
+        check(it.has_start && it.start == first.start && it.has_value && it.value == values[(it.start - LEAST) / 3], "first");
+        check(last.has_value && last.has_end == end.has_end && (!end.has_end || last.end == end.end), "last");
+        check(last.value == values[(last.start - LEAST) / 3] && !MAP_CALL(next)(map, last.has_end ? last.end : MOST, NULL) == last.has_end,
+            "last: the value");
+        check(range.start == first.start && range.has_end == end.has_end && range.end == end.end, "span");
+    } else check(it.value == 79 && last.value == 79 && range.start == 77, "first, last, span: of no key");
+    for (i = 0; i < 6; i++) {
+        const NUMBER from = TEST(key)((int)random_below(POINTS)) + (NUMBER)random_below(2),
+                     to = i == 0 ? MOST : TEST(key)((int)random_below(POINTS)) + (NUMBER)random_below(2);
+        const COUNT many = (COUNT)random_below(12), align = (COUNT)random_below(6);
+        check(CALL(gaps)(set, from, to, wanted, POINTS + 2, &list) == RANGE_SET_DONE, "gaps of the set");
+        for (room = 0; room <= list.len + 1; room++) {
+            out[room] = 77;
+            check(
+                MAP_CALL(gaps)(map, from, to, out, room, &gaps) == (room < list.len ? RANGE_SET_NO_ROOM : RANGE_SET_DONE), "gaps: status");
+            check(gaps.len == list.len && out[room] == 77, "gaps: the length");
+            check(room < list.len ? gaps.boundaries == NULL : CALL(equal)(gaps, list), "gaps: the set");
+        }
+        at = of_set = 77, found = CALL(first_fit)(set, from, to, many, &of_set);
+        check(MAP_CALL(first_fit)(map, from, to, many, &at) == found && at == of_set, "first_fit");
+        at = of_set = 77, found = CALL(first_fit_from)(set, from, many, &of_set);
+        check(MAP_CALL(first_fit_from)(map, from, many, &at) == found && at == of_set, "first_fit_from");
+        at = of_set = 77, found = CALL(first_fit_aligned)(set, from, to, many, align, &of_set);
+        check(MAP_CALL(first_fit_aligned)(map, from, to, many, align, &at) == found && at == of_set, "first_fit_aligned");
+        at = of_set = 77, found = CALL(first_fit_aligned_from)(set, from, many, align, &of_set);
+        check(MAP_CALL(first_fit_aligned_from)(map, from, many, align, &at) == found && at == of_set, "first_fit_aligned_from");
+    }
+    check(MAP_CALL(gaps)(map, LEAST, MOST, NULL, 1, &gaps) == RANGE_SET_BAD_ARGUMENT
+              && MAP_CALL(gaps)(map, LEAST, MOST, out, 1, NULL) == RANGE_SET_BAD_ARGUMENT,
+        "gaps: null");
+}
+
+/* The ranges that share a key with a range are those of `next` from its start on that begin below its end; with too little room the first
+ * ones, after which it goes on. */
+static void TEST(overlaps)(MAP map)
+{
+    int i;
+    for (i = 0; i < 4; i++) {
+        const NUMBER from = TEST(key)((int)random_below(POINTS)) + 1, to = TEST(key)((int)random_below(POINTS)) + (NUMBER)random_below(2);
+        const size_t room = 1 + random_below(POINTS);
+        STRETCH some[POINTS], it;
+        NUMBER at = from;
+        size_t len = MAP_CALL(overlapping)(map, from, to, some, room), p = 0;
+        bool more = MAP_CALL(next)(map, from, &it);
+        for (; more && from < to && it.start < to; more = it.has_end && MAP_CALL(next)(map, it.end, &it), p++) {
+            if (p == len) len += MAP_CALL(overlapping)(map, at, to, some + len, POINTS - len < room ? POINTS - len : room);
+            check(p < len, "overlapping: one more");
+            TEST(same)(some[p], it);
+            at = it.end;
+        }
+        check(p == len, "overlapping: how many");
+    }
+}
+
 static void TEST(is_map)(MAP map, const uint64_t *values);
 
 /* A map of ranges in a list, of which the last one around a key holds; copies, which are maps of their own. */
@@ -113,6 +192,8 @@ static void TEST(is_map)(MAP map, const uint64_t *values)
     check(MAP_CALL(get)(map, MOST, NULL) == (values[POINTS - 1] != 0), "get: of the greatest key");
     check(MAP_CALL(len)(map) == ranges, "len");
     TEST(next_ranges)(map, values);
+    TEST(as_set)(map, values);
+    TEST(overlaps)(map);
 }
 
 /* Ranges put in and taken out, empty and reversed ones too. */
@@ -134,6 +215,7 @@ static void TEST(changes)(long cases)
             case 2: status = MAP_CALL(remove_from)(&map, TEST(key)(from)), to = POINTS, value = 0; break;
             default: status = MAP_CALL(insert)(&map, TEST(key)(from), TEST(key)(to), value); break;
             }
+            if (random_below(20) == 0) MAP_CALL(clear)(&map), from = 0, to = POINTS, value = 0;
             check(status == RANGE_SET_DONE, "maps: status");
             for (p = from; p < to; p++) values[p] = value;
             TEST(is_map)(map, values);
@@ -162,6 +244,13 @@ static void TEST(bad_maps)(void)
     check(!it.has_start && !it.has_end && !it.has_value, "no map: one stretch without a value");
     MAP_CALL(free)(NULL);
     MAP_CALL(free)(&none);
+    MAP_CALL(clear)(NULL);
+    MAP_CALL(clear)(&none);
+    check(MAP_CALL(overlapping)(none, LEAST, MOST, both, 2) == 0 && !MAP_CALL(first)(none, &it) && !MAP_CALL(last)(none, NULL)
+              && !MAP_CALL(span)(none, NULL) && MAP_CALL(covered)(none, &value) && value == 0,
+        "no map has a range");
+    check(MAP_CALL(first_fit_from)(none, MOST, 1, NULL) && !MAP_CALL(first_fit)(none, MOST, MOST, 1, NULL), "no map: fits");
+    value = 5;
     check(MAP_CALL(new)(&map) == RANGE_SET_DONE, "new");
     check(MAP_CALL(insert)(&map, LEAST, MOST, UINT64_MAX) == RANGE_SET_DONE && MAP_CALL(insert_from)(&map, MOST, 0) == RANGE_SET_DONE,
         "insert");
@@ -171,6 +260,9 @@ static void TEST(bad_maps)(void)
         "next_ranges: the greatest key");
     check(MAP_CALL(next_ranges)(map, MOST, both, 2) == 1 && both[0].start == MOST && both[0].value == 0,
         "next_ranges: from the greatest key");
+    check(MAP_CALL(overlapping)(map, LEAST, MOST, both, 2) == 1 && MAP_CALL(overlapping)(map, MOST, MOST, both, 2) == 0
+              && MAP_CALL(overlapping)(map, LEAST, MOST, NULL, 2) == 0 && MAP_CALL(overlapping)(map, LEAST, MOST, both, 0) == 0,
+        "overlapping: the greatest key");
     check(MAP_CALL(remove)(&map, LEAST, MOST) == RANGE_SET_DONE && MAP_CALL(next_ranges)(map, 1, both, 2) == 1 && both[0].start == MOST,
         "next_ranges: the greatest key alone");
     MAP_CALL(free)(&map);

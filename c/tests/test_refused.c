@@ -126,7 +126,7 @@ enum { MANY = 1500 };
     static void refused_##number(void) \
     { \
         static NUMBER list[2 * MANY]; \
-        range_set_##number##_chunked set; \
+        range_set_##number##_chunked set, copy; \
         range_set_##number view, one; \
         size_t p; \
         long k; \
@@ -146,6 +146,16 @@ enum { MANY = 1500 };
         UNTIL_DONE(number, range_set_##number##_chunked_combine(&set, view, RANGE_SET_UNION), 2 * MANY) \
         check(k > 2, "a connective takes some requests"); \
         is_list_##number(set, list); \
+        UNTIL_DONE(number, range_set_##number##_chunked_combine_chunked(&set, set, RANGE_SET_UNION), 2 * MANY) \
+        check(k > 3, "a connective with a set in chunks takes one request more"); \
+        is_list_##number(set, list); \
+        UNTIL_DONE(number, range_set_##number##_chunked_clone(set, &copy), 2 * MANY) \
+        check(k > 2, "a copy takes some requests"); \
+        range_set_##number##_chunked_free(&set); \
+        is_list_##number(copy, list); \
+        range_set_##number##_chunked_free(&copy); \
+        UNTIL_DONE(number, range_set_##number##_chunked_from_values(list, 2 * MANY, &set), 0) \
+        check(k > 3 && range_set_##number##_chunked_ranges_len(set) == 2 * MANY, "values take some requests"); \
         range_set_##number##_chunked_free(&set); \
         set.at = list; \
         UNTIL_DONE(number, range_set_##number##_chunked_new(&set), 0) \

@@ -75,6 +75,9 @@ static void TEST(questions)(struct log *log, SET a, SET b, NUMBER x, NUMBER y, u
     note(log, EXPORT(first_fit)(list, len, x, y, (COUNT)k, &at)), note(log, (uint64_t)at);
     note(log, EXPORT(first_fit_aligned)(list, len, x, y, (COUNT)(k / 16), (COUNT)(k % 16), &at)), note(log, (uint64_t)at);
     note(log, EXPORT(first_run)(list, len, x, y, (COUNT)k, &at)), note(log, (uint64_t)at);
+    note(log, EXPORT(first_fit_from)(list, len, x, (COUNT)k, &at)), note(log, (uint64_t)at);
+    note(log, EXPORT(first_fit_aligned_from)(list, len, x, (COUNT)(k / 16), (COUNT)(k % 16), &at)), note(log, (uint64_t)at);
+    note(log, EXPORT(first_run_from)(list, len, x, (COUNT)k, &at)), note(log, (uint64_t)at);
     note(log, EXPORT(covered)(list, len, &count)), note(log, count);
     note(log, EXPORT(is_disjoint)(list, len, other, other_len));
     note(log, EXPORT(intersects)(list, len, other, other_len));
@@ -173,6 +176,9 @@ static void TEST(asked_in_chunks)(struct log *log, CHUNKED *set, NUMBER start, N
     note(log, EXPORT(chunked_first_fit)(set, start, end, k % 32, &at)), note(log, (uint64_t)at);
     note(log, EXPORT(chunked_first_fit_aligned)(set, start, end, k / 16, k % 16, &at)), note(log, (uint64_t)at);
     note(log, EXPORT(chunked_first_run)(set, start, end, k % 32, &at)), note(log, (uint64_t)at);
+    note(log, EXPORT(chunked_first_fit_from)(set, start, k % 32, &at)), note(log, (uint64_t)at);
+    note(log, EXPORT(chunked_first_fit_aligned_from)(set, start, k / 16, k % 16, &at)), note(log, (uint64_t)at);
+    note(log, EXPORT(chunked_first_run_from)(set, start, k % 32, &at)), note(log, (uint64_t)at);
     note(log, EXPORT(chunked_select)(set, 8u * k, &at)), note(log, (uint64_t)at);
     note(log, EXPORT(chunked_rank)(set, end));
     found = EXPORT(chunked_range_at)(set, start, &it.start, &it.end, &it.has_end), TEST(tell_range)(log, found, it);
@@ -198,6 +204,22 @@ static void TEST(whole_in_chunks)(struct log *log, CHUNKED *set, size_t room)
     len = EXPORT(chunked_copy)(set, out, LONGEST), note(log, len);
     if (len > log->most) log->most = len;
     if (len <= LONGEST) TEST(note_list)(log, out, len);
+}
+
+/* What it answers about a list, and about a copy of itself that has what the list has too. */
+static void TEST(beside_in_chunks)(struct log *log, CHUNKED *set, SET list)
+{
+    CHUNKED copy = {NULL};
+    note(log, EXPORT(chunked_intersects_list)(set, list.boundaries, list.len));
+    note(log, EXPORT(chunked_is_subset_list)(set, list.boundaries, list.len));
+    note(log, EXPORT(chunked_is_superset_list)(set, list.boundaries, list.len));
+    note(log, EXPORT(chunked_clone)(&copy, set));
+    note(log, EXPORT(chunked_insert_all)(&copy, list.boundaries, list.len));
+    note(log, EXPORT(chunked_intersects)(set, &copy)), note(log, EXPORT(chunked_intersects)(&copy, set));
+    note(log, EXPORT(chunked_is_subset)(set, &copy)), note(log, EXPORT(chunked_is_subset)(&copy, set));
+    note(log, EXPORT(chunked_equal)(set, &copy)), note(log, EXPORT(chunked_equal)(&copy, set));
+    note(log, EXPORT(chunked_boundaries_len)(&copy));
+    EXPORT(chunked_free)(&copy);
 }
 
 /* A set in chunks, changed as often as there are bytes and asked after each, at some changes by hundreds of ranges: a chunk has at most
@@ -226,7 +248,7 @@ static void TEST(in_chunks)(struct log *log, SET a, struct input *input, size_t 
             note(log, call % 2 == 0 ? EXPORT(chunked_insert)(&set, start, end) : EXPORT(chunked_remove)(&set, start, end));
         }
         TEST(asked_in_chunks)(log, &set, start, end, call, room);
-        if (step % 8 == 0) TEST(whole_in_chunks)(log, &set, room);
+        if (step % 8 == 0) TEST(whole_in_chunks)(log, &set, room), TEST(beside_in_chunks)(log, &set, a);
     }
     TEST(whole_in_chunks)(log, &set, room);
     EXPORT(chunked_clear)(&set);
@@ -272,6 +294,8 @@ static void TEST(mapped)(struct log *log, struct input *input)
         note(log, EXPORT(range_at)(&copy, it.end, &it.start, &it.has_start, &it.end, &it.has_end, &it.value));
         note(log, (uint64_t)it.start), note(log, it.has_start), note(log, (uint64_t)it.end), note(log, it.has_end), note(log, it.value);
     }
+    EXPORT(clear)(&copy);
+    note(log, EXPORT(len)(&copy));
     EXPORT(free)(&copy);
     note(log, copy.at == NULL);
 }

@@ -203,6 +203,17 @@ public:
     {
         return detail::found<T>(calls::first_fit_aligned, &owner_.it, start, end, count, align);
     }
+    // Both in a range, which may have no end.
+    std::optional<T> first_fit(const range<T> &within, amount count) noexcept
+    {
+        if (within.has_end) return first_fit(within.start, within.end, count);
+        return detail::found<T>(calls::first_fit_from, &owner_.it, integer(within.start), count);
+    }
+    std::optional<T> first_fit_aligned(const range<T> &within, amount count, amount align) noexcept
+    {
+        if (within.has_end) return first_fit_aligned(within.start, within.end, count, align);
+        return detail::found<T>(calls::first_fit_aligned_from, &owner_.it, integer(within.start), count, align);
+    }
 
     // The ranges, and those that have a number at or above another.
     iterator begin() const & noexcept { return iterator(inner(), std::numeric_limits<number>::min()); }

@@ -118,6 +118,12 @@ public:
     {
         return found<T>(Calls::first_run, asked(), start, end, count);
     }
+    // The same in a range, which may have no end: `set.first_run(from(9), 2)`.
+    std::optional<T> first_run(const range<T> &within, amount count) const noexcept
+    {
+        if (within.has_end) return first_run(within.start, within.end, count);
+        return found<T>(Calls::first_run_from, asked(), integer(within.start), count);
+    }
 
 protected:
     // The set of range_set.h.
@@ -199,6 +205,17 @@ public:
     std::optional<T> first_fit_aligned(integer start, integer end, amount count, amount align) const noexcept
     {
         return found<T>(calls::first_fit_aligned, this->asked(), start, end, count, align);
+    }
+    // Both in a range, which may have no end: `set.first_fit(from(9), 2)`.
+    std::optional<T> first_fit(const range<T> &within, amount count) const noexcept
+    {
+        if (within.has_end) return first_fit(within.start, within.end, count);
+        return found<T>(calls::first_fit_from, this->asked(), integer(within.start), count);
+    }
+    std::optional<T> first_fit_aligned(const range<T> &within, amount count, amount align) const noexcept
+    {
+        if (within.has_end) return first_fit_aligned(within.start, within.end, count, align);
+        return found<T>(calls::first_fit_aligned_from, this->asked(), integer(within.start), count, align);
     }
 
     // The ranges as a text, "0..10, 20..".

@@ -17,9 +17,8 @@ pub(crate) mod ranges;
 use crate::in_place::overwrite;
 use crate::parts::put;
 use range_chunks::{ChunkedRangeSet, ChunkedSpace, Iter};
-use range_collections::{Countable, EntryClone, RangeSetRange, RangeSetRef};
+use range_collections::{Countable, EntryClone, RangeSetRange, RangeSetRef, ValueRange};
 use std::alloc::{AllocError, Global};
-use std::ops::Range;
 
 // A set with the boundaries of a list, if there is memory for it.
 pub(crate) fn copied<T: EntryClone + Drop>(alloc: Global, a: &[T]) -> Option<ChunkedRangeSet<T>>
@@ -118,18 +117,18 @@ pub(crate) fn next_gap<T: Ord + Copy>(set: &ChunkedRangeSet<T>, from: T, next: &
 
 // Whether there is a number from which on `count` numbers lie in the range and none is a member,
 // and then writes the least. The set remembers what it learns of its gaps.
-pub(crate) fn first_fit<T: Countable + Copy>(
+pub(crate) fn first_fit<T: Countable + Copy, R: ValueRange<T>>(
     set: &mut ChunkedSpace<T>,
-    within: Range<T>,
+    within: R,
     count: u128,
     at: &mut T,
 ) -> bool
     ensures fits { IsTrue result → IsFit T.cmp T.value false set.old
-        (T.place within.start) (T.place within.end) count (T.place at.new) }
+        (R.start within) (R.end within) count (T.place at.new) }
     ensures least { IsTrue result → (n : ℕ) → IsFit T.cmp T.value false set.old
-        (T.place within.start) (T.place within.end) count n → T.place at.new ≤ n }
+        (R.start within) (R.end within) count n → T.place at.new ≤ n }
     ensures none { result ≡ false → (n : ℕ) → ¬ (IsFit T.cmp T.value false set.old
-        (T.place within.start) (T.place within.end) count n) }
+        (R.start within) (R.end within) count n) }
     ensures no_answer { result ≡ false → at.new ≡ at.old }
     ensures unchanged { set.new ≡ set.old }
 {

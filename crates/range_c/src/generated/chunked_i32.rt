@@ -6,7 +6,7 @@ ghost use Rattle.std.specs.Int.{w32};
 ghost use Rattle.std.specs.Ordering.{int_cmp, is_le, is_lt};
 ghost use Rattle.range_collections.specs.Countable.{signed_place, signed_value};
 ghost use Rattle.range_collections.specs.Fits.{IsFit, IsMultiple};
-ghost use Rattle.range_collections.specs.Boundaries.{IsAscending, member};
+ghost use Rattle.range_collections.specs.Boundaries.{IsAscending, IsSameSet, member};
 ghost use Rattle.range_collections.specs.Connective.{Means, union_table, difference_table};
 ghost use Rattle.range_collections.specs.Covered.{covered_of, members_below};
 ghost use Rattle.range_collections.specs.Extent.{HasAllWithin};
@@ -15,7 +15,7 @@ ghost use Rattle.range_collections.specs.Intersects.{HasMemberWithin};
 ghost use Rattle.range_collections.specs.Members.{IsPrevious};
 ghost use Rattle.range_collections.specs.Overlapping.{overlaps};
 ghost use Rattle.range_collections.specs.Ranges.{range_items, ranges_of, IsInRange};
-ghost use Rattle.range_collections.specs.Sets.{AreEqual};
+ghost use Rattle.range_collections.specs.Sets.{AreEqual, Intersects, IsSubset};
 ghost use Rattle.range_collections.specs.Values.{IsEverything};
 ghost use Rattle.range_c.specs.Chunked.{held, outcome, CopiesFront, CopiesTo, TellsNext};
 ghost use Rattle.range_c.specs.Parts.{range_told, TellsRange};
@@ -29,6 +29,7 @@ use crate::chunked::{
     remove_all, remove_from,
 };
 use range_chunks::ChunkedSpace;
+use range_collections::RangeSetRef;
 use std::alloc::Global;
 use std::marker::Model;
 use std::mem::replace;
@@ -156,6 +157,29 @@ pub extern "C" fn proved_range_set_i32_chunked_of(
         Some(copy) => set.fill(alloc, ChunkedSpace::from_set(alloc, copy)),
         None => false,
     }
+}
+
+/// Makes a set of the same members as `from`, and returns whether there was memory for it.
+#[unsafe(no_mangle)]
+pub extern "C" fn proved_range_set_i32_chunked_clone(
+    set: &mut ChunkedI32,
+    alloc: Global,
+    from: &mut ChunkedI32,
+) -> bool
+    requires none { set.old.set ≡ None }
+    requires some_from { IsSome from.old.set }
+    ensures some { IsTrue result → IsSome set.new.set }
+    ensures equal { IsTrue result → AreEqual int_cmp (held from.old.set) (held set.new.set) }
+    ensures refused { result ≡ false → set.new.set ≡ None }
+    ensures unchanged { from.new.set ≡ from.old.set }
+{
+    let taken = from.take(alloc);
+    let done = match taken.set.as_set().clone() {
+        Ok(copy) => set.fill(alloc, ChunkedSpace::from_set(alloc, copy)),
+        Err(_) => false,
+    };
+    from.put(taken);
+    done
 }
 
 /// Gives the set's memory back.
@@ -367,6 +391,123 @@ pub extern "C" fn proved_range_set_i32_chunked_is_all(set: &mut ChunkedI32, allo
 {
     let taken = set.take(alloc);
     let answer = taken.set.as_set().is_all();
+    set.put(taken);
+    answer
+}
+
+/// Whether some number is a member of both sets.
+#[unsafe(no_mangle)]
+pub extern "C" fn proved_range_set_i32_chunked_intersects(
+    set: &mut ChunkedI32,
+    alloc: Global,
+    that: &mut ChunkedI32,
+) -> bool
+    requires some { IsSome set.old.set }
+    requires some_that { IsSome that.old.set }
+    ensures members { IsTrue result ↔ Intersects int_cmp (held set.old.set) (held that.old.set) }
+    ensures unchanged { set.new.set ≡ set.old.set }
+    ensures that_unchanged { that.new.set ≡ that.old.set }
+{
+    let taken = set.take(alloc);
+    let other = that.take(alloc);
+    let answer = taken.set.as_set().intersects(other.set.as_set());
+    that.put(other);
+    set.put(taken);
+    answer
+}
+
+/// Whether every member of the set is one of the other.
+#[unsafe(no_mangle)]
+pub extern "C" fn proved_range_set_i32_chunked_is_subset(
+    set: &mut ChunkedI32,
+    alloc: Global,
+    that: &mut ChunkedI32,
+) -> bool
+    requires some { IsSome set.old.set }
+    requires some_that { IsSome that.old.set }
+    ensures members { IsTrue result ↔ IsSubset int_cmp (held set.old.set) (held that.old.set) }
+    ensures unchanged { set.new.set ≡ set.old.set }
+    ensures that_unchanged { that.new.set ≡ that.old.set }
+{
+    let taken = set.take(alloc);
+    let other = that.take(alloc);
+    let answer = taken.set.as_set().is_subset(other.set.as_set());
+    that.put(other);
+    set.put(taken);
+    answer
+}
+
+/// Whether both sets have the same members.
+#[unsafe(no_mangle)]
+pub extern "C" fn proved_range_set_i32_chunked_equal(
+    set: &mut ChunkedI32,
+    alloc: Global,
+    that: &mut ChunkedI32,
+) -> bool
+    requires some { IsSome set.old.set }
+    requires some_that { IsSome that.old.set }
+    ensures members { IsTrue result ↔ IsSameSet int_cmp (held set.old.set) (held that.old.set) }
+    ensures unchanged { set.new.set ≡ set.old.set }
+    ensures that_unchanged { that.new.set ≡ that.old.set }
+{
+    let taken = set.take(alloc);
+    let other = that.take(alloc);
+    let answer = taken.set.as_set() == other.set.as_set();
+    that.put(other);
+    set.put(taken);
+    answer
+}
+
+/// Whether some number is a member of the set and of a list.
+#[unsafe(no_mangle)]
+pub extern "C" fn proved_range_set_i32_chunked_intersects_list(
+    set: &mut ChunkedI32,
+    alloc: Global,
+    b: &[i32],
+) -> bool
+    requires some { IsSome set.old.set }
+    requires sorted { IsAscending int_cmp b.now }
+    ensures members { IsTrue result ↔ Intersects int_cmp (held set.old.set) b.now }
+    ensures unchanged { set.new.set ≡ set.old.set }
+{
+    let taken = set.take(alloc);
+    let answer = taken.set.as_set().intersects(RangeSetRef::new_unchecked(b));
+    set.put(taken);
+    answer
+}
+
+/// Whether every member of the set is one of a list.
+#[unsafe(no_mangle)]
+pub extern "C" fn proved_range_set_i32_chunked_is_subset_list(
+    set: &mut ChunkedI32,
+    alloc: Global,
+    b: &[i32],
+) -> bool
+    requires some { IsSome set.old.set }
+    requires sorted { IsAscending int_cmp b.now }
+    ensures members { IsTrue result ↔ IsSubset int_cmp (held set.old.set) b.now }
+    ensures unchanged { set.new.set ≡ set.old.set }
+{
+    let taken = set.take(alloc);
+    let answer = taken.set.as_set().is_subset(RangeSetRef::new_unchecked(b));
+    set.put(taken);
+    answer
+}
+
+/// Whether every member of a list is one of the set.
+#[unsafe(no_mangle)]
+pub extern "C" fn proved_range_set_i32_chunked_is_superset_list(
+    set: &mut ChunkedI32,
+    alloc: Global,
+    b: &[i32],
+) -> bool
+    requires some { IsSome set.old.set }
+    requires sorted { IsAscending int_cmp b.now }
+    ensures members { IsTrue result ↔ IsSubset int_cmp b.now (held set.old.set) }
+    ensures unchanged { set.new.set ≡ set.old.set }
+{
+    let taken = set.take(alloc);
+    let answer = taken.set.as_set().is_superset(RangeSetRef::new_unchecked(b));
     set.put(taken);
     answer
 }
@@ -698,6 +839,80 @@ pub extern "C" fn proved_range_set_i32_chunked_first_run(
 {
     let taken = set.take(alloc);
     let answer = first_run(taken.set.as_set(), start..end, u128::from(count), at);
+    set.put(taken);
+    answer
+}
+
+/// Whether there is a number from which on `count` numbers lie at or above `start` and none is a member, and then writes the least one. What it learns of gaps stays for the next search.
+#[unsafe(no_mangle)]
+pub extern "C" fn proved_range_set_i32_chunked_first_fit_from(
+    set: &mut ChunkedI32,
+    alloc: Global,
+    start: i32,
+    count: u32,
+    at: &mut i32,
+) -> bool
+    requires { IsSome set.old.set }
+    ensures fits { IsTrue result → IsFit int_cmp (signed_value (2 ^ 31)) false (held set.old.set) (signed_place (2 ^ 31) start) (2 ^ 32) count (signed_place (2 ^ 31) at.new) }
+    ensures least { IsTrue result → (n : ℕ) → IsFit int_cmp (signed_value (2 ^ 31)) false (held set.old.set) (signed_place (2 ^ 31) start) (2 ^ 32) count n → signed_place (2 ^ 31) at.new ≤ n }
+    ensures none { result ≡ false → (n : ℕ) → ¬ (IsFit int_cmp (signed_value (2 ^ 31)) false (held set.old.set) (signed_place (2 ^ 31) start) (2 ^ 32) count n) }
+    ensures no_answer { result ≡ false → at.new ≡ at.old }
+    ensures unchanged { set.new.set ≡ set.old.set }
+{
+    let mut taken = set.take(alloc);
+    let answer = first_fit(&mut taken.set, start.., u128::from(count), at);
+    set.put(taken);
+    answer
+}
+
+/// Whether there is a number from which on `count` numbers lie at or above `start`, none of them a member, and which is a multiple of `align`, and then writes the least one. What it learns of gaps stays for the next search.
+#[unsafe(no_mangle)]
+pub extern "C" fn proved_range_set_i32_chunked_first_fit_aligned_from(
+    set: &mut ChunkedI32,
+    alloc: Global,
+    start: i32,
+    count: u32,
+    align: u32,
+    at: &mut i32,
+) -> bool
+    requires { IsSome set.old.set }
+    ensures fits { IsTrue result → IsFit int_cmp (signed_value (2 ^ 31)) false (held set.old.set) (signed_place (2 ^ 31) start) (2 ^ 32) count (signed_place (2 ^ 31) at.new) }
+    ensures aligned { IsTrue result → IsMultiple (2 ^ 31) align (signed_place (2 ^ 31) at.new) }
+    ensures least { IsTrue result → (n : ℕ) → IsMultiple (2 ^ 31) align n → IsFit int_cmp (signed_value (2 ^ 31)) false (held set.old.set) (signed_place (2 ^ 31) start) (2 ^ 32) count n → signed_place (2 ^ 31) at.new ≤ n }
+    ensures none { result ≡ false → 0 < align → (n : ℕ) → n < 2 ^ 32 → IsMultiple (2 ^ 31) align n → ¬ (IsFit int_cmp (signed_value (2 ^ 31)) false (held set.old.set) (signed_place (2 ^ 31) start) (2 ^ 32) count n) }
+    ensures no_answer { result ≡ false → at.new ≡ at.old }
+    ensures unchanged { set.new.set ≡ set.old.set }
+{
+    let mut taken = set.take(alloc);
+    let answer = first_fit_aligned(
+        &mut taken.set,
+        start..,
+        u128::from(count),
+        u128::from(align),
+        at,
+    );
+    set.put(taken);
+    answer
+}
+
+/// Whether there is a number from which on `count` members in a row lie at or above `start`, and then writes the least one.
+#[unsafe(no_mangle)]
+pub extern "C" fn proved_range_set_i32_chunked_first_run_from(
+    set: &mut ChunkedI32,
+    alloc: Global,
+    start: i32,
+    count: u32,
+    at: &mut i32,
+) -> bool
+    requires { IsSome set.old.set }
+    ensures fits { IsTrue result → IsFit int_cmp (signed_value (2 ^ 31)) true (held set.old.set) (signed_place (2 ^ 31) start) (2 ^ 32) count (signed_place (2 ^ 31) at.new) }
+    ensures least { IsTrue result → (n : ℕ) → IsFit int_cmp (signed_value (2 ^ 31)) true (held set.old.set) (signed_place (2 ^ 31) start) (2 ^ 32) count n → signed_place (2 ^ 31) at.new ≤ n }
+    ensures none { result ≡ false → (n : ℕ) → ¬ (IsFit int_cmp (signed_value (2 ^ 31)) true (held set.old.set) (signed_place (2 ^ 31) start) (2 ^ 32) count n) }
+    ensures no_answer { result ≡ false → at.new ≡ at.old }
+    ensures unchanged { set.new.set ≡ set.old.set }
+{
+    let taken = set.take(alloc);
+    let answer = first_run(taken.set.as_set(), start.., u128::from(count), at);
     set.put(taken);
     answer
 }

@@ -230,6 +230,18 @@ pub extern "C" fn proved_range_map_i64_remove_from(
     done
 }
 
+/// Takes all values away.
+#[unsafe(no_mangle)]
+pub extern "C" fn proved_range_map_i64_clear(map: &mut MappedI64, alloc: Global)
+    requires { IsSome map.old.map }
+    ensures some { IsSome map.new.map }
+    ensures values { (x : ℤ) → value_at int_cmp (held_map map.new.map) x ≡ None }
+{
+    let mut taken = map.take(alloc);
+    taken.map.clear();
+    map.put(taken);
+}
+
 /// Whether the key has a value, and then writes it.
 #[unsafe(no_mangle)]
 pub extern "C" fn proved_range_map_i64_get(

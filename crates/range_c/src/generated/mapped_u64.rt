@@ -230,6 +230,18 @@ pub extern "C" fn proved_range_map_u64_remove_from(
     done
 }
 
+/// Takes all values away.
+#[unsafe(no_mangle)]
+pub extern "C" fn proved_range_map_u64_clear(map: &mut MappedU64, alloc: Global)
+    requires { IsSome map.old.map }
+    ensures some { IsSome map.new.map }
+    ensures values { (x : ℕ) → value_at nat_cmp (held_map map.new.map) x ≡ None }
+{
+    let mut taken = map.take(alloc);
+    taken.map.clear();
+    map.put(taken);
+}
+
 /// Whether the key has a value, and then writes it.
 #[unsafe(no_mangle)]
 pub extern "C" fn proved_range_map_u64_get(

@@ -33,7 +33,7 @@ use crate::calls::{combine, merge, range_of, split};
 use crate::combining::combine_within;
 use crate::each::contains_each;
 use crate::ends::Ends;
-use crate::fitting::{first_fit_aligned, first_run};
+use crate::fitting::{first_fit_aligned, first_fit_count, first_run};
 use crate::from_least::combine_from;
 use crate::in_place::{insert, remove};
 use crate::members::{prev_gap, prev_member, rank, select};
@@ -477,6 +477,23 @@ pub extern "C" fn proved_range_set_i64_first_fit(
     )
 }
 
+/// Whether there is a number from which on `count` numbers lie at or above `start` and none is a member, and then writes the least.
+#[unsafe(no_mangle)]
+pub extern "C" fn proved_range_set_i64_first_fit_from(
+    a: &[i64],
+    start: i64,
+    count: u64,
+    at: &mut i64,
+) -> bool
+    requires { IsAscending int_cmp a.now }
+    ensures fits { IsTrue result → IsFit int_cmp (signed_value (2 ^ 63)) false a.now (signed_place (2 ^ 63) start) (2 ^ 64) count (signed_place (2 ^ 63) at.new) }
+    ensures least { IsTrue result → (n : ℕ) → IsFit int_cmp (signed_value (2 ^ 63)) false a.now (signed_place (2 ^ 63) start) (2 ^ 64) count n → signed_place (2 ^ 63) at.new ≤ n }
+    ensures none { result ≡ false → (n : ℕ) → ¬ (IsFit int_cmp (signed_value (2 ^ 63)) false a.now (signed_place (2 ^ 63) start) (2 ^ 64) count n) }
+    ensures unchanged { result ≡ false → at.new ≡ at.old }
+{
+    first_fit_count(a, start.., u128::from(count), at)
+}
+
 /// Whether there is a number from which on `count` numbers lie between `start` and `end`, none of them a member, and which is a multiple of `align`, and then writes the least one.
 #[unsafe(no_mangle)]
 pub extern "C" fn proved_range_set_i64_first_fit_aligned(
@@ -513,6 +530,42 @@ pub extern "C" fn proved_range_set_i64_first_run(
     ensures unchanged { result ≡ false → at.new ≡ at.old }
 {
     first_run(a, start..end, u128::from(count), at)
+}
+
+/// Whether there is a number from which on `count` numbers lie at or above `start`, none of them a member, and which is a multiple of `align`, and then writes the least one.
+#[unsafe(no_mangle)]
+pub extern "C" fn proved_range_set_i64_first_fit_aligned_from(
+    a: &[i64],
+    start: i64,
+    count: u64,
+    align: u64,
+    at: &mut i64,
+) -> bool
+    requires { IsAscending int_cmp a.now }
+    ensures fits { IsTrue result → IsFit int_cmp (signed_value (2 ^ 63)) false a.now (signed_place (2 ^ 63) start) (2 ^ 64) count (signed_place (2 ^ 63) at.new) }
+    ensures aligned { IsTrue result → IsMultiple (2 ^ 63) align (signed_place (2 ^ 63) at.new) }
+    ensures least { IsTrue result → (n : ℕ) → IsMultiple (2 ^ 63) align n → IsFit int_cmp (signed_value (2 ^ 63)) false a.now (signed_place (2 ^ 63) start) (2 ^ 64) count n → signed_place (2 ^ 63) at.new ≤ n }
+    ensures none { result ≡ false → 0 < align → (n : ℕ) → n < 2 ^ 64 → IsMultiple (2 ^ 63) align n → ¬ (IsFit int_cmp (signed_value (2 ^ 63)) false a.now (signed_place (2 ^ 63) start) (2 ^ 64) count n) }
+    ensures unchanged { result ≡ false → at.new ≡ at.old }
+{
+    first_fit_aligned(a, start.., u128::from(count), u128::from(align), at)
+}
+
+/// Whether there is a number from which on `count` members in a row lie at or above `start`, and then writes the least one.
+#[unsafe(no_mangle)]
+pub extern "C" fn proved_range_set_i64_first_run_from(
+    a: &[i64],
+    start: i64,
+    count: u64,
+    at: &mut i64,
+) -> bool
+    requires { IsAscending int_cmp a.now }
+    ensures fits { IsTrue result → IsFit int_cmp (signed_value (2 ^ 63)) true a.now (signed_place (2 ^ 63) start) (2 ^ 64) count (signed_place (2 ^ 63) at.new) }
+    ensures least { IsTrue result → (n : ℕ) → IsFit int_cmp (signed_value (2 ^ 63)) true a.now (signed_place (2 ^ 63) start) (2 ^ 64) count n → signed_place (2 ^ 63) at.new ≤ n }
+    ensures none { result ≡ false → (n : ℕ) → ¬ (IsFit int_cmp (signed_value (2 ^ 63)) true a.now (signed_place (2 ^ 63) start) (2 ^ 64) count n) }
+    ensures unchanged { result ≡ false → at.new ≡ at.old }
+{
+    first_run(a, start.., u128::from(count), at)
 }
 
 /// Sorts the numbers, in any order, and moves the distinct ones to the front, as many as it returns.

@@ -30,7 +30,7 @@ use crate::calls::{combine, merge, range_of, split};
 use crate::combining::combine_within;
 use crate::each::contains_each;
 use crate::ends::Ends;
-use crate::fitting::{first_fit_aligned, first_run};
+use crate::fitting::{first_fit_aligned, first_fit_count, first_run};
 use crate::from_least::combine_from;
 use crate::in_place::{insert, remove};
 use crate::members::{prev_gap, prev_member, rank, select};
@@ -474,6 +474,23 @@ pub extern "C" fn proved_range_set_u32_first_fit(
     first_fit(a, start, end, len, at)
 }
 
+/// Whether there is a number from which on `count` numbers lie at or above `start` and none is a member, and then writes the least.
+#[unsafe(no_mangle)]
+pub extern "C" fn proved_range_set_u32_first_fit_from(
+    a: &[u32],
+    start: u32,
+    count: u32,
+    at: &mut u32,
+) -> bool
+    requires { IsAscending nat_cmp a.now }
+    ensures fits { IsTrue result → IsFit nat_cmp (λ n. n) false a.now start (2 ^ 32) count (at.new) }
+    ensures least { IsTrue result → (n : ℕ) → IsFit nat_cmp (λ n. n) false a.now start (2 ^ 32) count n → at.new ≤ n }
+    ensures none { result ≡ false → (n : ℕ) → ¬ (IsFit nat_cmp (λ n. n) false a.now start (2 ^ 32) count n) }
+    ensures unchanged { result ≡ false → at.new ≡ at.old }
+{
+    first_fit_count(a, start.., u128::from(count), at)
+}
+
 /// Whether there is a number from which on `count` numbers lie between `start` and `end`, none of them a member, and which is a multiple of `align`, and then writes the least one.
 #[unsafe(no_mangle)]
 pub extern "C" fn proved_range_set_u32_first_fit_aligned(
@@ -510,6 +527,42 @@ pub extern "C" fn proved_range_set_u32_first_run(
     ensures unchanged { result ≡ false → at.new ≡ at.old }
 {
     first_run(a, start..end, u128::from(count), at)
+}
+
+/// Whether there is a number from which on `count` numbers lie at or above `start`, none of them a member, and which is a multiple of `align`, and then writes the least one.
+#[unsafe(no_mangle)]
+pub extern "C" fn proved_range_set_u32_first_fit_aligned_from(
+    a: &[u32],
+    start: u32,
+    count: u32,
+    align: u32,
+    at: &mut u32,
+) -> bool
+    requires { IsAscending nat_cmp a.now }
+    ensures fits { IsTrue result → IsFit nat_cmp (λ n. n) false a.now start (2 ^ 32) count (at.new) }
+    ensures aligned { IsTrue result → IsMultiple 0 align (at.new) }
+    ensures least { IsTrue result → (n : ℕ) → IsMultiple 0 align n → IsFit nat_cmp (λ n. n) false a.now start (2 ^ 32) count n → at.new ≤ n }
+    ensures none { result ≡ false → 0 < align → (n : ℕ) → n < 2 ^ 32 → IsMultiple 0 align n → ¬ (IsFit nat_cmp (λ n. n) false a.now start (2 ^ 32) count n) }
+    ensures unchanged { result ≡ false → at.new ≡ at.old }
+{
+    first_fit_aligned(a, start.., u128::from(count), u128::from(align), at)
+}
+
+/// Whether there is a number from which on `count` members in a row lie at or above `start`, and then writes the least one.
+#[unsafe(no_mangle)]
+pub extern "C" fn proved_range_set_u32_first_run_from(
+    a: &[u32],
+    start: u32,
+    count: u32,
+    at: &mut u32,
+) -> bool
+    requires { IsAscending nat_cmp a.now }
+    ensures fits { IsTrue result → IsFit nat_cmp (λ n. n) true a.now start (2 ^ 32) count (at.new) }
+    ensures least { IsTrue result → (n : ℕ) → IsFit nat_cmp (λ n. n) true a.now start (2 ^ 32) count n → at.new ≤ n }
+    ensures none { result ≡ false → (n : ℕ) → ¬ (IsFit nat_cmp (λ n. n) true a.now start (2 ^ 32) count n) }
+    ensures unchanged { result ≡ false → at.new ≡ at.old }
+{
+    first_run(a, start.., u128::from(count), at)
 }
 
 /// Sorts the numbers, in any order, and moves the distinct ones to the front, as many as it returns.

@@ -5,12 +5,12 @@ use Rattle.range_c.proofs.chunked.first_fit.Goals as goal
 
 pub returns-clause-least : goal.returns-clause-least
 returns-clause-least g c =
-    let Fit = λ (n : ℕ). IsFit g.T.Ord.cmp g.T.Countable.value false c.args.set.now (g.T.Countable.place c.args.within.start) (g.T.Countable.place c.args.within.end) c.args.count n in
+    let Fit = λ (n : ℕ). IsFit g.T.Ord.cmp g.T.Countable.value false c.args.set.now (g.R.ValueRange.start c.args.within) (g.R.ValueRange.end c.args.within) c.args.count n in
     told-some c.first_fit_count.result c.put.result c.args.at.now c.put.new.place c.put.ensures.some c.put.ensures.none
     (λ at. (n : ℕ) → Fit n → g.T.Countable.place at ≤ n) c.first_fit_count.ensures.least
 
 pub returns-clause-none : goal.returns-clause-none
 returns-clause-none g c =
-    let Fit = λ (n : ℕ). IsFit g.T.Ord.cmp g.T.Countable.value false c.args.set.now (g.T.Countable.place c.args.within.start) (g.T.Countable.place c.args.within.end) c.args.count n in
+    let Fit = λ (n : ℕ). IsFit g.T.Ord.cmp g.T.Countable.value false c.args.set.now (g.R.ValueRange.start c.args.within) (g.R.ValueRange.end c.args.within) c.args.count n in
     told-none c.first_fit_count.result c.put.result c.args.at.now c.put.new.place c.put.ensures.some c.put.ensures.none
     ((n : ℕ) → Fit n → ⊥) c.first_fit_count.ensures.none

@@ -1,9 +1,7 @@
 use Rattle.range_c.proofs.generated.chunked_u64.proved_range_set_u64_chunked_first_run.Goals as goal
 
 pub returns-clause-least : goal.returns-clause-least
-returns-clause-least c was n row =
-    c.first_run-answer.ensures.least was n (rw (c.from.ensures, c.as_set.ensures, c.deref.ensures, c.take-taken.ensures.held) row)
+returns-clause-least c was n row = c.first_run-answer.ensures.least was n (rw (c.from.ensures, c.as_set.ensures, c.deref.ensures, c.take-taken.ensures.held) row)
 
 pub returns-clause-none : goal.returns-clause-none
-returns-clause-none c was n row =
-    c.first_run-answer.ensures.none was n (rw (c.from.ensures, c.as_set.ensures, c.deref.ensures, c.take-taken.ensures.held) row)
+returns-clause-none c was n row = c.first_run-answer.ensures.none was n (rw (c.from.ensures, c.as_set.ensures, c.deref.ensures, c.take-taken.ensures.held) row)

@@ -3,8 +3,8 @@ use Rattle.range_c.proofs.generated.sets_i64.proved_range_set_i64_first_run.Goal
 
 pub returns-clause-least : goal.returns-clause-least
 returns-clause-least c was n row =
-    c.first_run.ensures.least was n (rw c.from.ensures (simp (to_z-of_z, c.ranges.start, c.ranges.end) row))
+    c.first_run.ensures.least was n (rw (c.from.ensures) (simp (to_z-of_z, c.ranges.start, c.ranges.end) row))
 
 pub returns-clause-none : goal.returns-clause-none
 returns-clause-none c was n row =
-    c.first_run.ensures.none was n (rw c.from.ensures (simp (to_z-of_z, c.ranges.start, c.ranges.end) row))
+    c.first_run.ensures.none was n (rw (c.from.ensures) (simp (to_z-of_z, c.ranges.start, c.ranges.end) row))
