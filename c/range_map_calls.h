@@ -69,13 +69,19 @@ size_t NAME(next_ranges)(MAP map, NUMBER from, STRETCH *out, size_t room)
     return len;
 }
 
+/* Writes a range to the caller's place, if its keys have a value and there is one. Returns whether they have. */
+static bool NAME(write_stretch)(STRETCH it, STRETCH *stretch)
+{
+    if (it.has_value && stretch != NULL) *stretch = it;
+    return it.has_value;
+}
+
 bool NAME(next)(MAP map, NUMBER from, STRETCH *stretch)
 {
     STRETCH it = NAME(range_at)(map, from);
     /* After keys without a value come some that have one. */
     if (!it.has_value && it.has_end) it = NAME(range_at)(map, it.end);
-    if (it.has_value && stretch != NULL) *stretch = it;
-    return it.has_value;
+    return NAME(write_stretch)(it, stretch);
 }
 
 bool NAME(first)(MAP map, STRETCH *stretch)
@@ -88,8 +94,7 @@ bool NAME(last)(MAP map, STRETCH *stretch)
     STRETCH it = NAME(range_at)(map, MOST);
     /* Before keys without a value come some that have one. */
     if (!it.has_value && it.has_start) it = NAME(range_at)(map, it.start - 1);
-    if (it.has_value && stretch != NULL) *stretch = it;
-    return it.has_value;
+    return NAME(write_stretch)(it, stretch);
 }
 
 bool NAME(span)(MAP map, RANGE *range)

@@ -36,7 +36,7 @@ SIGNS = {
 }
 # What makes, copies, frees or borrows a value, forms that one language needs for a call of another, and their own subjects.
 LEFT_OUT = re.compile(
-    r"""\w+_(counted|unchanged|from|owned|ref|assign|unchecked|len|until|full|set|range|bool|json|inner|unsorted|view|capacity)|
+    r"""\w+_(counted|unchanged|from|owned|ref|assign|unchecked|len|until|full|set|range|bool|json|inner|unsorted|view|capacity|list|chunked)|
     merge_\w+|buffer_\w+|owned_\w+|members_\w+|from_boundaries|from_parts|new|of|all|empty|single|clone|copy|free|view|swap|end|
     boundaries|capacity|reserve|kind|unsigned|bounded|status_text|range_set|chunked_range_set|compare|set|range_set_view|
     shrink_to_fit|range_last|next_ranges|stretch|combine_with|_\w+""",
@@ -60,7 +60,7 @@ OTHERWISE = {
             "owned_clear": "clear",
         },
         "c": {
-            "chunked_next": "iter", "chunked_of": "from_ranges",
+            "chunked_next": "iter", "chunked_of": "from_ranges", "chunked_print": "to_string", "chunked_equal": "==",
             "chunked_combine": "combine union_with intersection_with difference_with symmetric_difference_with",
         },
         "m": {"range_at": "get_key_value", "get": "get contains_key", "next": "iter", "of": "from_ranges"},
