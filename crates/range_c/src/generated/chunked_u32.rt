@@ -450,7 +450,7 @@ pub extern "C" fn proved_range_set_u32_chunked_equal(
 {
     let taken = set.take(alloc);
     let other = that.take(alloc);
-    let answer = taken.set.as_set() == other.set.as_set();
+    let answer = *taken.set.as_set() == *other.set.as_set();
     that.put(other);
     set.put(taken);
     answer
