@@ -7,3 +7,4 @@ pub mod FitSearches
 pub mod Windowed
 pub mod Related
 pub mod Lengths
+pub mod Retained

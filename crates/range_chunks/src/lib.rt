@@ -9,6 +9,7 @@ mod gap_bound;
 mod iter;
 mod merging;
 mod relating;
+mod retaining;
 mod set;
 mod several;
 mod space;
@@ -20,6 +21,7 @@ mod within;
 
 pub use any_set::AnySet;
 pub use iter::Iter;
+pub use retaining::RangeFilter;
 pub use set::ChunkedRangeSet;
 pub use space::ChunkedSpace;
 pub use within::{Gaps, RangesWithin};
