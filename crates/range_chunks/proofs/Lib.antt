@@ -7,4 +7,5 @@ pub mod FitSearches
 pub mod Windowed
 pub mod Related
 pub mod Lengths
+pub mod OneValue
 pub mod Retained

@@ -19,6 +19,7 @@ mod ranges;
 mod relations;
 mod several;
 mod taking;
+mod values;
 
 use crate::iter::Iter;
 use range_collections::Comparisons;
