@@ -1,6 +1,6 @@
 //! An operation on boundaries that lie in chunks and those of a view. Where those of the view can touch
 //! the others, the result is made aside as a list of clones.
-ghost use Rattle.std.specs.Prelude.{◌≡◌, ◌≤◌, ◌-◌, ◌^◌, ◌<◌, false, List, map, take, drop, OnOk, OnErr, IfOk};
+ghost use Rattle.std.specs.Prelude.{◌≡◌, ◌≤◌, ◌-◌, ◌^◌, ◌<◌, true, false, List, map, take, drop, OnOk, OnErr, IfOk};
 ghost use Rattle.range_merge.specs.Boundaries.{IsAscending};
 ghost use Rattle.range_merge.specs.Changes.{changes};
 ghost use Rattle.range_merge.specs.Copies.{AreCopies, IsAppended, items_if};
@@ -30,14 +30,32 @@ pub fn merge_into<T: EntryClone + Drop, O: MergeOperation>(
         (joined list.old) that.now (IsItselfOr T.is_copy) T.is_copy (joined list.new)) }
     ensures unchanged { OnErr result (joined list.new ≡ joined list.old) }
 {
+    if !op.takes_a(false) {
+        let taken = merged_apart(list, that, op)?;
+        *list = taken;
+        return Ok(());
+    }
     let (from, to) = window(list, that);
     let made = merged_between(list, from, to, that, op)?;
-    if op.takes_a(false) {
-        return list.replace_between(from, to, made);
-    }
-    let taken = Chunks::from_list(made)?;
-    *list = taken;
-    Ok(())
+    list.replace_between(from, to, made)
+}
+
+/// Clones of the result of an operation that takes nothing of the list where the other one has no
+/// members. It clones no more than the window that the other boundaries can touch.
+pub fn merged_apart<T: EntryClone + Drop, O: MergeOperation>(
+    list: &Chunks<T, bool>,
+    that: &[T],
+    op: &O,
+) -> Result<Chunks<T, bool>, AllocError>
+    requires off { O.connective op.now false false ≡ false }
+    requires apart { O.connective op.now true false ≡ false }
+    requires own_ascending { IsAscending T.cmp (joined list.now) }
+    requires that_ascending { IsAscending T.cmp that.now }
+    ensures { IfOk result (λ made. IsTheResult T.cmp EveryElement (O.connective op.now)
+        (joined list.now) that.now (IsItselfOr T.is_copy) T.is_copy (joined made)) }
+{
+    let (from, to) = window(list, that);
+    Chunks::from_list(merged_between(list, from, to, that, op)?)
 }
 
 // Clones of the operation's result on the boundaries between two places and the other ones.

@@ -12,6 +12,7 @@ mod changing;
 mod combining;
 mod counted;
 mod fitting;
+mod joining;
 mod making;
 mod many_ranges;
 mod members;
