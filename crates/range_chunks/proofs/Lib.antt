@@ -7,5 +7,6 @@ pub mod FitSearches
 pub mod Windowed
 pub mod Related
 pub mod Lengths
+pub mod Halves
 pub mod OneValue
 pub mod Retained

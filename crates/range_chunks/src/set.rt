@@ -15,6 +15,7 @@ mod fitting;
 mod joining;
 mod making;
 mod many_ranges;
+mod many_sets;
 mod members;
 mod ranges;
 mod relations;
