@@ -9,4 +9,5 @@ pub mod Related
 pub mod Lengths
 pub mod Halves
 pub mod OneValue
+pub mod ReadInto
 pub mod Retained

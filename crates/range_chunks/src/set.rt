@@ -18,6 +18,7 @@ mod many_ranges;
 mod many_sets;
 mod members;
 mod ranges;
+mod reading;
 mod relations;
 mod several;
 mod taking;
