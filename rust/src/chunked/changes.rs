@@ -2,10 +2,13 @@
 
 use crate::any_range::{AnyRange, IntoRange};
 use crate::array::List;
+use crate::entry::RangeSetEntry;
+use crate::fallible::EntryClone;
 use crate::forms::{ends, fails};
 use crate::generated::range_chunks as proved;
 use crate::generated::range_collections::FromPlace;
 use crate::range::RangeSetRange;
+use crate::range_set::{intersection_of_sets, union_of_sets, RangeSetRef};
 use crate::support::{Global, SmallVec};
 
 macro_rules! changes {
@@ -70,6 +73,60 @@ macro_rules! changes {
                 T: FromPlace,
             {
                 Self::from_ranges(values.into_iter().map(RangeSetRange::of_value))
+            }
+
+            /// Returns the set of the members of one of the sets at least, as
+            /// [`RangeSet::union_all`](crate::RangeSet::union_all) does.
+            ///
+            #[doc = $errors!("If memory runs out or a copy fails.")]
+            /// # Examples
+            ///
+            /// ```
+            #[doc = concat!("use ", $at, "::ChunkedRangeSet;")]
+            /// use range_sets::RangeSetRef;
+            ///
+            /// let sets = [&[9, 11][..], &[10, 12, 15, 18]].map(|set| RangeSetRef::new(set).unwrap());
+            #[doc = concat!("let busy: ChunkedRangeSet<u32> = ChunkedRangeSet::union_all(sets)", $ok)]
+            /// assert_eq!(busy.to_string(), "9..12, 15..18");
+            #[doc = $end]
+            /// ```
+            #[$must_use]
+            pub fn union_all<S>(sets: impl IntoIterator<Item = S>) -> $form::Returned<Self>
+            where
+                T: $Clone,
+                S: AsRef<RangeSetRef<T>>,
+            {
+                let list = union_of_sets::<_, SmallVec<T, 2>, _, _>(sets, &$form::Copier);
+                let set = list.and_then(List::into_chunks).map(Self::of_proved);
+                $form::returned::<T, _, _>(set)
+            }
+
+            /// Returns the set of the members of each of the sets, or of every value if there is no
+            /// set, as [`RangeSet::intersection_all`](crate::RangeSet::intersection_all) does.
+            ///
+            #[doc = $errors!("If memory runs out or a copy fails.")]
+            /// # Examples
+            ///
+            /// ```
+            #[doc = concat!("use ", $at, "::ChunkedRangeSet;")]
+            /// use range_sets::RangeSetRef;
+            ///
+            /// let sets = [&[9, 17][..], &[10, 12, 15, 18]].map(|set| RangeSetRef::new(set).unwrap());
+            #[doc = concat!(
+                "let free: ChunkedRangeSet<u32> = ChunkedRangeSet::intersection_all(sets)", $ok
+            )]
+            /// assert_eq!(free.to_string(), "10..12, 15..17");
+            #[doc = $end]
+            /// ```
+            #[$must_use]
+            pub fn intersection_all<S>(sets: impl IntoIterator<Item = S>) -> $form::Returned<Self>
+            where
+                T: RangeSetEntry + $Clone,
+                S: AsRef<RangeSetRef<T>>,
+            {
+                let list = intersection_of_sets::<_, SmallVec<T, 2>, _, _>(sets, &$form::Copier);
+                let set = list.and_then(List::into_chunks).map(Self::of_proved);
+                $form::returned::<T, _, _>(set)
             }
 
             /// Adds the values of a range [of any kind](AnyRange). An empty or a reversed range

@@ -4,10 +4,10 @@ use super::{ChunkedRangeSet, Iter};
 use crate::chunks;
 use crate::forms::{ends, fails};
 use crate::generated::range_chunks as proved;
-use crate::generated::range_collections::{Boundaries, Comparisons};
-use crate::generated::range_list::FRONT;
+use crate::generated::range_collections::{self as lists, Boundaries, Comparisons};
 use crate::range::RangeSetRange;
 use crate::range_set::RangeSetRef;
+use core::cell::RefCell;
 use core::mem;
 
 macro_rules! taking {
@@ -33,26 +33,10 @@ macro_rules! taking {
             /// assert_eq!(free.to_string(), "9..11, 20..30");
             #[doc = $end]
             /// ```
-            pub fn retain(&mut self, mut keep: impl FnMut(RangeSetRange<&T>) -> bool) {
+            pub fn retain(&mut self, keep: impl FnMut(RangeSetRange<&T>) -> bool) {
+                let keep = KeptIf(RefCell::new(keep));
                 let mut set = mem::take(self);
-                set.changed(|set| {
-                    let list = &mut set.list;
-                    let (mut end, mut at) = (FRONT, FRONT);
-                    while let Some(start) = list.item_at(at) {
-                        let after = list.place_after(at);
-                        let range = RangeSetRange::of_ends(start, list.item_at(after));
-                        let has_end = range.end().is_some();
-                        let is_kept = keep(range);
-                        for from in [Some(at), has_end.then_some(after)].into_iter().flatten() {
-                            if is_kept {
-                                list.swap(end, from);
-                                end = list.place_after(end);
-                            }
-                            at = list.place_after(from);
-                        }
-                    }
-                    list.truncate(end);
-                });
+                set.changed(|set| set.retain(&keep));
                 *self = set;
             }
         }
@@ -60,6 +44,16 @@ macro_rules! taking {
 }
 
 both_forms!(taking);
+
+/// A filter by a closure.
+struct KeptIf<F>(RefCell<F>);
+
+impl<T, F: FnMut(RangeSetRange<&T>) -> bool> proved::RangeFilter<T> for KeptIf<F> {
+    #[inline(always)]
+    fn keeps(&self, range: lists::RangeSetRange<&T>) -> bool {
+        (self.0.borrow_mut())(RangeSetRange::from_proved(range))
+    }
+}
 
 impl<T: Ord> ChunkedRangeSet<T> {
     /// Adds the members of `that`, which is empty then. It inserts range after range. If something

@@ -112,10 +112,7 @@ impl<T: Ord> ChunkedRangeSet<T> {
     where
         T: EntryClone,
     {
-        let copy = that.try_clone()?.into_set::<[T; 2]>();
-        self.union_with(&copy.map_err(|(refused, _)| refused)?)?;
-        that.clear();
-        Ok(())
+        self.changed(|set| that.changed(|that| set.append(that)))
     }
 
     /// Removes the members at and above `at`, and returns the set of copies of them.
@@ -139,14 +136,7 @@ impl<T: Ord> ChunkedRangeSet<T> {
     where
         T: EntryClone,
     {
-        let from = RangeSetRef::single(at);
-        let mut above = Self::new();
-        for range in self.overlapping(at..) {
-            above.insert(range.try_cloned()?)?;
-        }
-        above.intersection_with(from)?;
-        self.difference_with(from)?;
-        Ok(above)
+        self.changed(|set| set.split_off(at)).map(Self::of_proved)
     }
 
     #[inline(always)]
