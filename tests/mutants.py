@@ -37,7 +37,7 @@ it calls.
 - The exports of `range_c` for i32, u32 and u64, which are written from i64's.
 - `keeps` of a `MapFilter`, which only callers write.
 - None yet: relations, lengths, fits and pops of a `ChunkedRangeSet`, fits of a `ChunkedSpace`, `take_first_range`,
-  `take_last_range`, pops and `first_fit` of sets and views, and what makes a `RangeMap` of two or changes one by another or a set.
+  `take_last_range`, and pops and `first_fit` of sets and views.
 """
 
 import argparse
