@@ -2,10 +2,11 @@
 --     range_until k end    from k up to the end, if there is one
 --     first_or keys end    the first key, or else the end
 --     entries m            the ranges with their values, from the lowest on
+--     ranges_in m, values_in m    the ranges alone, and the values alone
 --     entries_of items end those of a list of steps, up to the end, if there is one
 --     overlaps order start end e    the range with its value shares a key with the one from start to end
 --     entry_now e          the range and the value that references point to
-use Rattle.std.specs.Prelude.{Bool, ◌&&◌, List, [], ◌∷◌, Option, Some, None}
+use Rattle.std.specs.Prelude.{Bool, ◌&&◌, List, [], ◌∷◌, map, Option, Some, None}
 use Rattle.std.specs.Borrow.{Bor}
 use Rattle.std.specs.Ordering.{is_lt}
 use Rattle.std.specs.declared.cmp.Ordering.{Ordering}
@@ -39,6 +40,13 @@ module _ {K V : Type 0} where
   -- the ranges of a map with their values, from the lowest on
   abbrev pub entries : Steps K V → List (RangeSetRange K × V)
   entries m = entries_until m.keys m.options None
+
+  -- the ranges alone, and the values alone
+  abbrev pub ranges_in : Steps K V → List (RangeSetRange K)
+  ranges_in m = map (λ e. e.0) (entries m)
+
+  abbrev pub values_in : Steps K V → List V
+  values_in m = map (λ e. e.1) (entries m)
 
   -- those of a list of steps, up to the end, if there is one
   abbrev pub entries_of : List (Step K V) → Option K → List (RangeSetRange K × V)

@@ -100,9 +100,9 @@ fn take_last_entry<'a, K, V>(
     None
 }
 
-// From the start up to the end, if there is one.
+/// From the start up to the end, if there is one.
 #[inline(always)]
-fn range_until<'a, K>(start: &'a K, end: Option<&'a K>) -> RangeSetRange<&'a K>
+pub fn range_until<'a, K>(start: &'a K, end: Option<&'a K>) -> RangeSetRange<&'a K>
     ensures { range_now result ≡ range_until start.now (option_copied end.entry) }
 {
     match end {

@@ -66,3 +66,46 @@ fn gaps_come_from_both_ends(rt: HostRuntime) -> Result<(), AllocError> {
     assert!(rt; text.as_str() == "RangeMap{2..5: 'a', 7..9: 'b', 9..12: 'a', 12..: 'c'}");
     Ok(())
 }
+
+// Whether there is a range, and it has these ends.
+fn has_ends(found: Option<RangeSetRange<&u64>>, start: u64, end: Option<u64>) -> bool {
+    match found {
+        Some(RangeSetRange::Range(range)) => *range.start == start && end == Some(*range.end),
+        Some(RangeSetRange::RangeFrom(range)) => *range.start == start && end.is_none(),
+        None => false,
+    }
+}
+
+#[test]
+fn keys_and_values_are_those_of_the_entries(rt: HostRuntime) -> Result<(), AllocError> {
+    let mut map = RangeMap::new(rt.alloc());
+    assert!(rt; map.first().is_none());
+    assert!(rt; map.last().is_none());
+    assert!(rt; map.span().is_none());
+    assert!(rt; map.keys().next().is_none());
+    assert!(rt; map.values().next_back().is_none());
+    map.insert(2..5u64, 'a')?;
+    map.insert(7..9, 'b')?;
+    map.insert(9..12, 'a')?;
+    assert!(rt; has_ends(map.span(), 2, Some(12)));
+    assert!(rt;
+        map.first().is_some_and(|(range, value)| has_ends(Some(range), 2, Some(5)) && *value == 'a')
+    );
+    assert!(rt;
+        map.last().is_some_and(|(range, value)| has_ends(Some(range), 9, Some(12)) && *value == 'a')
+    );
+    let mut keys = map.keys();
+    assert!(rt; has_ends(keys.next_back(), 9, Some(12)));
+    assert!(rt; has_ends(keys.next(), 2, Some(5)));
+    assert!(rt; has_ends(keys.next(), 7, Some(9)));
+    assert!(rt; keys.next().is_none());
+    let mut values = map.values();
+    assert!(rt; values.next().is_some_and(|value| *value == 'a'));
+    assert!(rt; values.next().is_some_and(|value| *value == 'b'));
+    assert!(rt; values.next_back().is_some_and(|value| *value == 'a'));
+    assert!(rt; values.next_back().is_none());
+    map.insert_from(11.., 'c')?;
+    assert!(rt; has_ends(map.span(), 2, None));
+    assert!(rt; has_ends(map.keys().next_back(), 11, None));
+    Ok(())
+}

@@ -1,17 +1,21 @@
 //! The ranges of a map: all of them with their values, and the one around a key.
-ghost use Rattle.std.specs.Prelude.{◌≡◌, ◌≤◌, filter, length, option_copied, slice_get};
+ghost use Rattle.std.specs.Prelude.{◌≡◌, ◌≤◌, [], Some, None, filter, length, option_copied, slice_get, MatchOption};
+ghost use Rattle.std.specs.List.{last_or};
+ghost use Rattle.range_collections.specs.Extent.{IsSpan};
+ghost use Rattle.range_collections.specs.Ranges.{range_now, range_start, range_end};
 ghost use Rattle.range_map.specs.Steps.{value_at};
-ghost use Rattle.range_map.specs.Entries.{entries, overlaps};
+ghost use Rattle.range_map.specs.Entries.{entries, entry_now, overlaps, ranges_in, values_in};
 ghost use Rattle.range_map.specs.Gaps.{AreGaps};
 ghost use Rattle.range_map.specs.Stretches.{IsStretch};
 
 use crate::gaps::Gaps;
 use crate::iter::Iter;
+use crate::keys::{Keys, Values};
 use crate::map::RangeMap;
 use crate::places::{key_at, key_before, option_before, place_up_to};
 use crate::within::{gaps_between, overlapping_steps};
 use range_collections::{Comparisons, RangeSetRange};
-use std::ops::Range;
+use std::ops::{Range, RangeFrom};
 
 /// The longest range around a key whose keys all have one value, or all have none. It has no start
 /// if all lower keys are in it too, and no end if all higher ones are.
@@ -30,6 +34,58 @@ impl<K: Ord, V: Eq> RangeMap<K, V> {
         ensures { result ≡ entries self.now }
     {
         Iter::new(self.steps.items(), None)
+    }
+
+    /// The ranges that have a value, from the lowest on and from the highest down.
+    ///
+    /// ```text
+    /// bookings.keys()                  // 9..11, 11..14
+    /// ```
+    pub fn keys(&self) -> Keys<'_, K, V>
+        ensures { result ≡ ranges_in self.now }
+    {
+        Keys::new(self.iter())
+    }
+
+    /// The values, from that of the lowest range on and from that of the highest down. A value comes
+    /// as often as it has ranges.
+    pub fn values(&self) -> Values<'_, K, V>
+        ensures { result ≡ values_in self.now }
+    {
+        Values::new(self.iter())
+    }
+
+    /// The first range with its value, or `None` if the map is empty.
+    #[inline]
+    pub fn first(&self) -> Option<(RangeSetRange<&K>, &V)>
+        ensures { MatchOption result (entries self.now ≡ []) (λ entry.
+            slice_get (entries self.now) 0 ≡ Some (entry_now entry)) }
+    {
+        self.iter().next()
+    }
+
+    /// The last range with its value, or `None` if the map is empty.
+    #[inline]
+    pub fn last(&self) -> Option<(RangeSetRange<&K>, &V)>
+        ensures { MatchOption result (entries self.now ≡ []) (λ entry.
+            last_or None (entries self.now) ≡ Some (entry_now entry)) }
+    {
+        self.iter().next_back()
+    }
+
+    /// The hull: from the start of the first range to the end of the last one, or without an end if
+    /// that has none. `None` if the map is empty.
+    ///
+    /// ```text
+    /// bookings.span()                  // 9..14
+    /// ```
+    pub fn span(&self) -> Option<RangeSetRange<&K>>
+        ensures { MatchOption result (ranges_in self.now ≡ []) (λ range.
+            IsSpan (ranges_in self.now) (range_now range)) }
+    {
+        let (first, _) = self.first()?;
+        let (last, _) = self.last()?;
+        Some(hull(first, last))
     }
 
     /// The ranges that share a key with this one, whole, each with its value. It has none in common
@@ -90,5 +146,23 @@ impl<'a, K: Ord, V: Eq> IntoIterator for &'a RangeMap<K, V> {
     #[inline]
     fn into_iter(self) -> Iter<'a, K, V> {
         self.iter()
+    }
+}
+
+// From the start of a range up to the end of another, if that has one.
+fn hull<'a, K>(first: RangeSetRange<&'a K>, last: RangeSetRange<&'a K>) -> RangeSetRange<&'a K>
+    ensures start { range_start (range_now result) ≡ range_start (range_now first.entry) }
+    ensures end { range_end (range_now result) ≡ range_end (range_now last.entry) }
+{
+    let start = match first {
+        RangeSetRange::Range(range) => range.start,
+        RangeSetRange::RangeFrom(range) => range.start,
+    };
+    match last {
+        RangeSetRange::Range(range) => RangeSetRange::Range(Range {
+            start,
+            end: range.end,
+        }),
+        RangeSetRange::RangeFrom(_) => RangeSetRange::RangeFrom(RangeFrom { start }),
     }
 }
