@@ -20,10 +20,10 @@ use Rattle.range_map.proofs.EntriesLemmas.{entries-split}
 use Rattle.range_map.proofs.FreeRanges.{less_to}
 
 -- a test that fails at the first item, or passes
-filter-out : {X : Type 0} (f : X → Bool) (x : X) (xs : List X) → f x ≡ false → filter f (x ∷ xs) ≡ filter f xs
+pub filter-out : {X : Type 0} (f : X → Bool) (x : X) (xs : List X) → f x ≡ false → filter f (x ∷ xs) ≡ filter f xs
 filter-out f x xs h = ap (λ b. cond b (x ∷ filter f xs) (filter f xs)) h
 
-filter-in : {X : Type 0} (f : X → Bool) (x : X) (xs : List X) → f x ≡ true → filter f (x ∷ xs) ≡ x ∷ filter f xs
+pub filter-in : {X : Type 0} (f : X → Bool) (x : X) (xs : List X) → f x ≡ true → filter f (x ∷ xs) ≡ x ∷ filter f xs
 filter-in f x xs h = ap (λ b. cond b (x ∷ filter f xs) (filter f xs)) h
 
 pub and-false : (b c : Bool) → c ≡ false → (b && c) ≡ false
@@ -36,7 +36,7 @@ first_or-at zero (k ∷ ks) end d within = refl
 first_or-at (suc n) (k ∷ ks) end d within = first_or-at n ks end d (omega (arith, within))
 
 module _ {K : Type 0} (order : K → K → Ordering) (o : IsTotalOrder order) where
-  not_lt : (x y : K) → is_le (order x y) ≡ true → is_lt (order y x) ≡ false
+  pub not_lt : (x y : K) → is_le (order x y) ≡ true → is_lt (order y x) ≡ false
   not_lt x y h =
       by_Ordering (order y x) (λ l. absurd (true≢false (sym h ∙ ap is_le (Greater-from_less o y x l)))) (λ e. ap is_lt e) (λ g. ap is_lt g)
 

@@ -15,11 +15,13 @@ use Rattle.range_collections.proofs.Ascending.{IsAscending-nil}
 use Rattle.range_map.specs.Steps.{Steps, value_at, AreAlike}
 use Rattle.range_map.specs.Combining.{IsPut, IsMadeUpTo}
 use Rattle.range_map.specs.Listed.{steps_of}
-use Rattle.range_map.specs.Updated.{kept, kept_step}
+use Rattle.range_collections.specs.declared.range_set_range.RangeSetRange.{RangeSetRange}
+use Rattle.range_map.specs.Updated.{kept, kept_at, kept_steps, IsRetained}
 use Rattle.range_map.specs.declared.step.Step.{Step}
 use Rattle.range_map.proofs.Pushed.{IsPut-left_out, IsPut-behind}
-use Rattle.range_map.proofs.Along.{get_or-behind_first}
-use Rattle.range_map.proofs.Listed.{length-keys}
+use Rattle.range_map.proofs.Along.{get_or-behind_first, read-along}
+use Rattle.range_map.proofs.Filtered.{among-along, kept-along, keys-kept, length-kept, kept-same}
+use Rattle.range_map.proofs.Listed.{length-keys, length-options}
 use Rattle.range_map.proofs.MadeUpTo.{IsMadeUpTo-nothing, IsMadeUpTo-left, IsCombined-made}
 
 module _ {X : Type 0} (xs : List X) (len i : ℕ) (ordered : len ≤ i) (within : i < length xs) (d : X) where
@@ -65,9 +67,9 @@ later xs ys n h = sym (drop-drop 1 n xs) ∙ ap (drop 1) h ∙ drop-drop 1 n ys
 
 -- a step that is moved down, or left out, as one that is put behind those before
 module _ {K V : Type 0} (order : K → K → Ordering) (o : IsTotalOrder order) (E : V → V → Bool) (items : List (Step K V)) (n i : ℕ)
-    (ordered : n ≤ i) (within : i < length items) (test : V → Bool) (d : Step K V) where
+    (ordered : n ≤ i) (within : i < length items) (test : RangeSetRange K × V → Bool) (d : Step K V) where
   abbrev kept_one : Step K V
-  kept_one = kept_step test (get_or items i d)
+  kept_one = kept_at test items i d
 
   abbrev changed : List (Step K V)
   changed = set items i kept_one
@@ -122,37 +124,55 @@ module _ {K V : Type 0} (order : K → K → Ordering) (o : IsTotalOrder order) 
       ∙ ap length (sym (swap_is changed n i d (omega (arith, ordered, within, length-set items i kept_one)) (omega (arith, within, length-set items i kept_one))))
       ∙ length-set (set changed n (get_or changed i d)) i (get_or changed n d) ∙ length-set changed n (get_or changed i d) ∙ length-set items i kept_one
 
--- one more step of a list is read, as far as what was made of it
-module _ {K V : Type 0} (order : K → K → Ordering) (o : IsTotalOrder order) (E : V → V → Bool) (e : IsEquivalence E) (test : V → Bool)
+-- one more step of a list is read, as far as what was made of those that are kept
+module _ {K V : Type 0} (order : K → K → Ordering) (o : IsTotalOrder order) (E : V → V → Bool) (e : IsEquivalence E) (test : RangeSetRange K × V → Bool)
     (old items : List (Step K V)) (i : ℕ) (ascending : IsAscending order (steps_of old).keys) where
   abbrev nothing : Steps K (Unit {0})
   nothing = record { keys = []; options = [] }
 
-  pub IsMadeUpTo-kept : (made new : Steps K V) (d : Step K V) → IsMadeUpTo order E (λ p q. kept test p) (steps_of old) nothing i 0 made →
-      IsPut order E made (get_or items i d).key (kept test (get_or items i d).option) new → i < length old → drop i items ≡ drop i old →
-      IsMadeUpTo order E (λ p q. kept test p) (steps_of old) nothing (i + 1) 0 new
+  abbrev all : List (Step K V)
+  all = kept_steps test old
+
+  all-ascend : IsAscending order (steps_of all).keys
+  all-ascend = subst (IsAscending order) (sym (keys-kept test old)) ascending
+
+  pub IsMadeUpTo-kept : (made new : Steps K V) (d : Step K V) → IsMadeUpTo order E (λ p q. p) (steps_of all) nothing i 0 made →
+      IsPut order E made (get_or items i d).key (kept_at test items i d).option new → i < length old → drop i items ≡ drop i old →
+      IsMadeUpTo order E (λ p q. p) (steps_of all) nothing (i + 1) 0 new
   IsMadeUpTo-kept made new d up_to put more same =
-      let s : Step K V = get_or items i d in
-      let n = length-keys old in
-      let within : i < length (steps_of old).keys = omega (arith, more, n) in
-      let read : s ≡ get_or old i d = get_or-from_drop items old i d same in
-      let key_is : s.key ≡ get_or (steps_of old).keys i s.key = ap (λ (t : Step K V). t.key) read ∙ sym (get_or-map (λ (t : Step K V). t.key) old i d s.key more) in
-      let option_is : get_or (None ∷ (steps_of old).options) (i + 1) None ≡ s.option =
-      get_or-behind_first None (steps_of old).options (i + 1) None (omega arith) ∙ one (steps_of old).options
-      ∙ get_or-map (λ (t : Step K V). t.option) old i d None more ∙ sym (ap (λ (t : Step K V). t.option) read) in
-      IsMadeUpTo-left order o E e (λ p q. kept test p) (steps_of old) nothing ascending (IsAscending-nil order) i 0 (omega (arith, within)) (omega arith) made new
-      s.key (kept test s.option) up_to put within key_is (λ m f low high. absurd (omega (arith, high)))
-      (ap (λ r. option_eq E (kept test s.option) (kept test r)) option_is ∙ (options_equiv e).refl (kept test s.option))
+      let s : Step K V = kept_at test items i d in
+      let within_all : i < length all = omega (arith, more, length-kept test old) in
+      let within : i < length (steps_of all).keys = omega (arith, within_all, length-keys all) in
+      let read : s ≡ get_or all i d = kept-same test old items i d same more in
+      let key_is : s.key ≡ get_or (steps_of all).keys i s.key = ap (λ (t : Step K V). t.key) read ∙ sym (get_or-map (λ (t : Step K V). t.key) all i d s.key within_all) in
+      let option_is : get_or (None ∷ (steps_of all).options) (i + 1) None ≡ s.option =
+      get_or-behind_first None (steps_of all).options (i + 1) None (omega arith) ∙ one (steps_of all).options
+      ∙ get_or-map (λ (t : Step K V). t.option) all i d None within_all ∙ sym (ap (λ (t : Step K V). t.option) read) in
+      IsMadeUpTo-left order o E e (λ p q. p) (steps_of all) nothing all-ascend (IsAscending-nil order) i 0 (omega (arith, within)) (omega arith) made new
+      s.key s.option up_to put within key_is (λ m f low high. absurd (omega (arith, high)))
+      (ap (λ r. option_eq E s.option r) option_is ∙ (options_equiv e).refl s.option)
     where
       one : (ws : List (Option V)) → get_or ws (i + 1 - 1) None ≡ get_or ws i None
       one ws = let same : i + 1 - 1 ≡ i = omega arith in ap (λ n. get_or ws n None) same
 
-  pub nothing-made : (made : Steps K V) → made.keys ≡ [] → made.options ≡ [] → IsMadeUpTo order E (λ p q. kept test p) (steps_of old) nothing 0 0 made
-  nothing-made made keys options = IsMadeUpTo-nothing order o E e (λ p q. kept test p) (steps_of old) nothing refl made keys options
+  pub nothing-made : (made : Steps K V) → made.keys ≡ [] → made.options ≡ [] → IsMadeUpTo order E (λ p q. p) (steps_of all) nothing 0 0 made
+  nothing-made made keys options = IsMadeUpTo-nothing order o E e (λ p q. p) (steps_of all) nothing refl made keys options
 
-  pub all-kept : (made : Steps K V) → length old ≤ i → i ≤ length old → IsMadeUpTo order E (λ p q. kept test p) (steps_of old) nothing i 0 made →
-      (x : K) → AreAlike E (value_at order made x) (kept test (value_at order (steps_of old) x))
-  all-kept made past within up_to =
-      let all : i ≡ length (steps_of old).keys = omega (arith, past, within, length-keys old) in
-      IsCombined-made order o E e (λ p q. kept test p) (steps_of old) nothing made
-      (subst (λ (n : ℕ). IsMadeUpTo order E (λ p q. kept test p) (steps_of old) nothing n 0 made) all up_to)
+  pub all-kept : (made : Steps K V) → length old ≤ i → i ≤ length old → IsMadeUpTo order E (λ p q. p) (steps_of all) nothing i 0 made →
+      IsRetained order E test (steps_of old) made
+  all-kept made past within up_to x =
+      let end : i ≡ length (steps_of all).keys = omega (arith, past, within, length-kept test old, length-keys all) in
+      let along_all = read-along order o None None (steps_of all).keys (steps_of all).options x all-ascend (length-options all ∙ sym (length-keys all)) in
+      ap (option_eq E (value_at order made x)) (among-along order o test old x ascending ∙ sym along_all)
+      ∙ IsCombined-made order o E e (λ p q. p) (steps_of all) nothing made
+      (subst (λ (n : ℕ). IsMadeUpTo order E (λ p q. p) (steps_of all) nothing n 0 made) end up_to) x
+
+-- where the test looks at values alone
+pub kept-by_value : {K V : Type 0} (order : K → K → Ordering) (o : IsTotalOrder order) (E : V → V → Bool) (test : V → Bool) (items : List (Step K V)) (r : Steps K V) →
+    IsAscending order (steps_of items).keys → IsRetained order E (λ e. test e.1) (steps_of items) r →
+    (x : K) → AreAlike E (value_at order r x) (kept test (value_at order (steps_of items) x))
+kept-by_value order o E test items r ascending h x =
+    ap (option_eq E (value_at order r x))
+    (ap (kept test) (read-along order o None None (steps_of items).keys (steps_of items).options x ascending (length-options items ∙ sym (length-keys items)))
+    ∙ sym (kept-along order test None items x) ∙ sym (among-along order o (λ e. test e.1) items x ascending))
+    ∙ h x

@@ -1,9 +1,10 @@
 -- The stretch around a key: from the last key of the map at or below it up to the next one.
-use Rattle.std.proofs.Common.{◌≡◌, ℕ, ◌+◌, ◌-◌, ◌<◌, ◌≤◌, ◌⊎◌, ◌&&◌, zero, suc, inl, inr, Bool, true, false, None, Some, Option, List, [], ◌∷◌, length, get_or, slice_get, refl, sym, ap, ap₂, ◌∙◌, arith, true≢false}
+use Rattle.std.proofs.Common.{◌≡◌, ℕ, ◌+◌, ◌-◌, ◌<◌, ◌≤◌, ◌⊎◌, ◌&&◌, zero, suc, inl, inr, Bool, true, false, None, Some, Option, List, [], ◌∷◌, length, get_or, slice_get, map, refl, sym, ap, ap₂, ◌∙◌, option_copied, arith, true≢false}
 use Rattle.std.proofs.lemmas.Bool.{cases_lt}
-use Rattle.std.proofs.lemmas.List.{get_or_default}
+use Rattle.std.proofs.lemmas.List.{get_or_default, get_or-map}
 use Rattle.std.specs.List.{AllWithin}
-use Rattle.std.specs.Option.{option_eq}
+use Rattle.std.specs.Option.{option_eq, IsSome}
+use Rattle.std.specs.Borrow.{Bor}
 use Rattle.std.specs.Cmp.{IsTotalOrder, IsEquivalence}
 use Rattle.std.specs.Cmp.Lexicographic.{options_equiv}
 use Rattle.std.proofs.lemmas.Cmp.{tied_itself}
@@ -20,7 +21,7 @@ use Rattle.range_map.specs.Changed.{is_before_end}
 use Rattle.range_map.specs.Stretches.{is_from_start, IsBetween, IsStretch}
 use Rattle.range_map.proofs.UpToEnd.{not_before}
 
-by_bool : {G : Type 0} (c : Bool) → (c ≡ true → G) → (c ≡ false → G) → G
+pub by_bool : {G : Type 0} (c : Bool) → (c ≡ true → G) → (c ≡ false → G) → G
 by_bool true t f = t refl
 by_bool false t f = f refl
 
@@ -52,7 +53,7 @@ both true false h = absurd (true≢false (sym h))
 both false c h = absurd (true≢false (sym h))
 
 -- an item at a place, or none
-slice_get-cases : {X : Type 0} (xs : List X) (n : ℕ) →
+pub slice_get-cases : {X : Type 0} (xs : List X) (n : ℕ) →
     ((x : X) × (n < length xs) × (slice_get xs n ≡ Some x) × (get_or xs n x ≡ x)) ⊎ ((length xs ≤ n) × (slice_get xs n ≡ None))
 slice_get-cases [] n = inr (omega arith, refl)
 slice_get-cases (x ∷ xs) zero = inl (x, omega arith, refl, refl)
@@ -61,6 +62,24 @@ slice_get-cases (x ∷ xs) (suc n) =
       | inl k ↦ inl (k.0, omega (arith, k.1), k.2, k.3)
       | inr none ↦ inr (omega (arith, none.0), none.1)
     ]
+
+-- what was read is there
+pub some-read : {X : Type 0} (r : Option (Bor X)) (x : X) → option_copied r ≡ Some x → IsSome r
+some-read None x h = absurd (cc)
+some-read (Some y) x h = refl
+
+-- the key before a place
+pub start_from : {K : Type 0} (n : ℕ) (ks : List K) (r : Option K) → r ≡ get_or (None ∷ map Some ks) n None → n ≤ length ks →
+    (n ≡ 0 → r ≡ None) × (0 < n → (s : K) × (r ≡ Some s) × (get_or ks (n - 1) s ≡ s))
+start_from zero ks r h within = (λ _. h, λ some. absurd (omega (arith, some)))
+start_from (suc n) ks r h within =
+    let one : suc n - 1 ≡ n = omega arith in (
+      λ none. absurd (omega (arith, none)),
+      λ _. elim (slice_get-cases ks n) [
+        | inl k ↦ (k.0, h ∙ get_or-map Some ks n k.0 None k.1 ∙ ap Some k.3, ap (λ m. get_or ks m k.0) one ∙ k.3)
+        | inr none ↦ absurd (omega (arith, none.0, within))
+      ],
+    )
 
 module _ {K V : Type 0} (order : K → K → Ordering) (o : IsTotalOrder order) (E : V → V → Bool) (e : IsEquivalence E)
     (m : Steps K V) (canonical : IsCanonical order E m) where

@@ -11,5 +11,5 @@ pub mod Pairs
 pub mod Combining
 pub mod Units
 pub mod Depth
-pub mod Updated
 pub mod Gaps
+pub mod Updated

@@ -12,6 +12,7 @@ mod iter;
 mod keys;
 pub mod laws;
 mod map;
+mod modifying;
 mod operation;
 mod operations;
 mod places;
@@ -25,7 +26,7 @@ mod updating;
 mod value;
 mod within;
 
-pub use filter::MapFilter;
+pub use filter::{MapFilter, RangeFilter};
 pub use gaps::Gaps;
 pub use insert_error::InsertError;
 pub use iter::Iter;

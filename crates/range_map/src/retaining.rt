@@ -1,26 +1,28 @@
 //! Values taken away in place: what stays moves down, and steps with equal options become one.
 ghost use Rattle.std.specs.Prelude.{◌≡◌, ◌+◌, ◌<◌, ◌≤◌, ◌∷◌, true, false, None, cond, length, take, drop, set, get_or, option_copied};
 ghost use Rattle.std.specs.Option.{option_eq};
+ghost use Rattle.range_collections.specs.Ranges.{range_now};
 ghost use Rattle.range_list.specs.Lists.{joined, place_at, IsPlaceAt, HasPlacesOf};
 ghost use Rattle.range_map.specs.Combining.{IsPut};
 ghost use Rattle.range_map.specs.Listed.{steps_of, steps_in};
-ghost use Rattle.range_map.specs.Steps.{value_at, AreAlike, IsCanonical};
-ghost use Rattle.range_map.specs.Updated.{kept, kept_step};
+ghost use Rattle.range_map.specs.Steps.{IsCanonical};
+ghost use Rattle.range_map.specs.Updated.{kept, kept_at, IsRetained};
 
-use crate::filter::MapFilter;
-use crate::places::holds_before;
+use crate::filter::RangeFilter;
+use crate::iter::range_until;
+use crate::places::{holds_before, key_at};
 use crate::step::{Step, StepOption};
+use range_collections::RangeSetRange;
 use range_list::{Chunks, FRONT, Place};
 
 /// Takes away each value that the filter doesn't keep.
-pub fn retain_values<K: Ord + Drop, V: Eq + Drop, F: MapFilter<V>>(
+pub fn retain_entries<K: Ord + Drop, V: Eq + Drop, F: RangeFilter<K, V>>(
     steps: &mut Chunks<Step<K, V>, ()>,
     filter: &F,
 )
     requires { IsCanonical K.cmp V.eq (steps_in steps.old) }
     ensures canonical { IsCanonical K.cmp V.eq (steps_in steps.new) }
-    ensures values { (x : K) → AreAlike V.eq (value_at K.cmp (steps_in steps.new) x)
-        (kept (F.is_kept filter.now) (value_at K.cmp (steps_in steps.old) x)) }
+    ensures values { IsRetained K.cmp V.eq (F.is_kept filter.now) (steps_in steps.old) (steps_in steps.new) }
 {
     let mut end = FRONT;
     let mut at = FRONT;
@@ -44,7 +46,7 @@ fn is_item<K, V>(steps: &Chunks<Step<K, V>, ()>, at: Place) -> bool
 
 // Moves the step at a place down to the end of those that were kept, without its value if that
 // doesn't stay, and if its option then differs from the one before it. Returns the new end.
-fn keep_step<K: Ord + Drop, V: Eq + Drop, F: MapFilter<V>>(
+fn keep_step<K: Ord + Drop, V: Eq + Drop, F: RangeFilter<K, V>>(
     steps: &mut Chunks<Step<K, V>, ()>,
     end: Place,
     at: Place,
@@ -63,7 +65,7 @@ fn keep_step<K: Ord + Drop, V: Eq + Drop, F: MapFilter<V>>(
     ensures put { (d : Step K V) → IsPut K.cmp V.eq
         (steps_of (take (place_at steps.old end) (joined steps.old)))
         (get_or (joined steps.old) (place_at steps.old at) d).key
-        (kept (F.is_kept filter.now) (get_or (joined steps.old) (place_at steps.old at) d).option)
+        (kept_at (F.is_kept filter.now) (joined steps.old) (place_at steps.old at) d).option
         (steps_of (take (place_at steps.new result) (joined steps.new))) }
 {
     drop_unkept(steps, at, filter);
@@ -75,7 +77,7 @@ fn keep_step<K: Ord + Drop, V: Eq + Drop, F: MapFilter<V>>(
 }
 
 // Takes away the value at a place, if the filter doesn't keep it.
-fn drop_unkept<K: Drop, V: Drop, F: MapFilter<V>>(
+fn drop_unkept<K: Drop, V: Drop, F: RangeFilter<K, V>>(
     steps: &mut Chunks<Step<K, V>, ()>,
     at: Place,
     filter: &F,
@@ -84,7 +86,7 @@ fn drop_unkept<K: Drop, V: Drop, F: MapFilter<V>>(
     requires item { place_at steps.old at < length (joined steps.old) }
     ensures places { HasPlacesOf steps.old steps.new }
     ensures items { (d : Step K V) → joined steps.new ≡ set (joined steps.old) (place_at steps.old at)
-        (kept_step (F.is_kept filter.now) (get_or (joined steps.old) (place_at steps.old at) d)) }
+        (kept_at (F.is_kept filter.now) (joined steps.old) (place_at steps.old at) d) }
 {
     if !stays(steps, at, filter) {
         steps.set_key(at, &StepOption, None);
@@ -92,28 +94,35 @@ fn drop_unkept<K: Drop, V: Drop, F: MapFilter<V>>(
 }
 
 // Whether the option at a place stays as it is.
-fn stays<K, V, F: MapFilter<V>>(steps: &Chunks<Step<K, V>, ()>, at: Place, filter: &F) -> bool
+fn stays<K, V, F: RangeFilter<K, V>>(steps: &Chunks<Step<K, V>, ()>, at: Place, filter: &F) -> bool
     requires at { IsPlaceAt steps.now at }
     requires item { place_at steps.now at < length (joined steps.now) }
-    ensures { (d : Step K V) → kept_step (F.is_kept filter.now) (get_or (joined steps.now) (place_at steps.now at) d) ≡
+    ensures { (d : Step K V) → kept_at (F.is_kept filter.now) (joined steps.now) (place_at steps.now at) d ≡
         record {
           key = (get_or (joined steps.now) (place_at steps.now at) d).key;
           option = cond result (get_or (joined steps.now) (place_at steps.now at) d).option None;
         } }
 {
     match steps.item_at(at) {
-        Some(step) => is_kept(step.option.as_ref(), filter),
+        Some(step) => {
+            let range = range_until(&step.key, key_at(steps, steps.place_after(at)));
+            is_kept(range, step.option.as_ref(), filter)
+        }
         None => true,
     }
 }
 
-// Whether an option stays as it is.
-fn is_kept<V, F: MapFilter<V>>(option: Option<&V>, filter: &F) -> bool
-    ensures { kept (F.is_kept filter.now) (option_copied option.entry) ≡
+// Whether the option of a range stays as it is.
+fn is_kept<K, V, F: RangeFilter<K, V>>(
+    range: RangeSetRange<&K>,
+    option: Option<&V>,
+    filter: &F,
+) -> bool
+    ensures { kept (λ v. F.is_kept filter.now (range_now range.entry, v)) (option_copied option.entry) ≡
         cond result (option_copied option.entry) None }
 {
     match option {
-        Some(value) => filter.keeps(value),
+        Some(value) => filter.keeps(range, value),
         None => true,
     }
 }

@@ -1,13 +1,14 @@
 //! Made-up maps: operations on them have the values of arrays of options that are treated alike.
 ghost use Rattle.std.specs.Bool.{beq};
 ghost use Rattle.std.specs.Option.{is_some};
-ghost use Rattle.std.specs.Prelude.{cond, nat_eq, not, Some, None};
+ghost use Rattle.std.specs.Prelude.{◌%◌, cond, nat_eq, not, Some, None};
+ghost use Rattle.range_collections.specs.Ranges.{range_start};
 ghost use Rattle.range_map.specs.Units.{unit_if};
 
 use crate::depths::has_depths;
 use crate::made_up::{KEYS, LIMIT, next_range, set};
-use range_collections::{Comparisons, RangeSet2};
-use range_map::{MapFilter, MapOperation, MapUpdate, RangeMap};
+use range_collections::{Comparisons, RangeSet2, RangeSetRange};
+use range_map::{MapFilter, MapOperation, MapUpdate, RangeFilter, RangeMap};
 use range_tests_kit::generator::Generator;
 use std::alloc::{AllocError, Global};
 use std::ops::Range;
@@ -282,6 +283,99 @@ fn made_up_maps_keep_what_is_retained(rt: HostRuntime) -> Result<(), AllocError>
         let (mut map, mut options) = made_up(rt.alloc(), &mut generator)?;
         keep_threes(&mut options);
         map.retain(&Threes);
+        assert!(rt; has(&map, &options), "{sequence}");
+    }
+    Ok(())
+}
+
+// Whether a range starts at an even number.
+struct EvenStarts;
+
+impl RangeFilter<u64, u64> for EvenStarts {
+    ghost is_kept = { λ _ e. nat_eq (range_start e.0 % 2) 0 };
+
+    fn keeps(&self, range: RangeSetRange<&u64>, _value: &u64) -> bool {
+        match range {
+            RangeSetRange::Range(range) => *range.start % 2 == 0,
+            RangeSetRange::RangeFrom(range) => *range.start % 2 == 0,
+        }
+    }
+}
+
+// Takes the options out that are alike from an odd number on.
+fn keep_even_starts(options: &mut Options) {
+    let mut before = None;
+    let mut is_even = true;
+    for key in 0..LIMIT {
+        let option = options[key as usize];
+        if option != before {
+            is_even = key % 2 == 0;
+            before = option;
+        }
+        if !is_even {
+            options[key as usize] = None;
+        }
+    }
+}
+
+#[test]
+fn made_up_maps_keep_the_ranges_that_are_retained(rt: HostRuntime) -> Result<(), AllocError> {
+    let mut generator = Generator::new();
+    for sequence in 0..10_000u64 {
+        let (mut map, mut options) = made_up(rt.alloc(), &mut generator)?;
+        keep_even_starts(&mut options);
+        map.retain_ranges(&EvenStarts);
+        assert!(rt; has(&map, &options), "{sequence}");
+    }
+    Ok(())
+}
+
+// The value 3 in the place of each.
+struct Three;
+
+impl MapUpdate<u64> for Three {
+    ghost gives = { λ _ p. Some 3 };
+
+    fn apply(&self, _option: Option<&u64>) -> Result<Option<u64>, AllocError> {
+        Ok(Some(3))
+    }
+}
+
+// Gives the options around a key that are alike another one, if they are values.
+fn set_around(options: &mut Options, key: u64, option: Option<u64>) -> bool {
+    let around = options[key as usize];
+    let mut start = 0;
+    for other in 0..key {
+        if options[other as usize] != around {
+            start = other + 1;
+        }
+    }
+    let mut end = LIMIT;
+    for other in key..LIMIT {
+        if end == LIMIT && options[other as usize] != around {
+            end = other;
+        }
+    }
+    if around.is_some() {
+        set(options, &(start..end), option);
+    }
+    around.is_some()
+}
+
+#[test]
+fn made_up_maps_are_modified(rt: HostRuntime) -> Result<(), AllocError> {
+    let mut generator = Generator::new();
+    for sequence in 0..10_000u64 {
+        let (mut map, mut options) = made_up(rt.alloc(), &mut generator)?;
+        for _ in 0..4 {
+            let key = generator.below(LIMIT);
+            let found = if generator.below(4) == 0 {
+                set_around(&mut options, key, None) == map.modify(&key, &Turn)?
+            } else {
+                set_around(&mut options, key, Some(3)) == map.modify(&key, &Three)?
+            };
+            assert!(rt; found, "{sequence}");
+        }
         assert!(rt; has(&map, &options), "{sequence}");
     }
     Ok(())

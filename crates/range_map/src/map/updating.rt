@@ -1,13 +1,17 @@
-//! Values changed by what they were: those of a range by `update`, all of a map by `retain`.
-ghost use Rattle.std.specs.Prelude.{◌≡◌, false, None, Some, IsOk, OnOk, OnErr};
+//! Values changed by what they were: those of a range by `update`, one by `modify`, all of a map by
+//! `retain` and `retain_ranges`.
+ghost use Rattle.std.specs.Prelude.{◌≡◌, true, false, None, Some, IsOk, IfOk, OnOk, OnErr};
+ghost use Rattle.std.specs.Option.{is_some};
 ghost use Rattle.std.specs.Ordering.{is_lt};
 ghost use Rattle.std.specs.declared.cmp.Ordering.TheVariants.{Equal};
 ghost use Rattle.range_map.specs.Steps.{AreAlike, value_at};
-ghost use Rattle.range_map.specs.Updated.{IsUpdated, kept};
+ghost use Rattle.range_map.specs.Stretches.{IsModified};
+ghost use Rattle.range_map.specs.Updated.{IsUpdated, IsRetained, kept};
 
-use crate::filter::MapFilter;
+use crate::filter::{ByValue, MapFilter, RangeFilter};
 use crate::map::RangeMap;
-use crate::retaining::retain_values;
+use crate::modifying::modify_stretch;
+use crate::retaining::retain_entries;
 use crate::update::MapUpdate;
 use crate::updating::update_range;
 use crate::value::MapValue;
@@ -42,6 +46,24 @@ impl<K: EntryClone + Drop, V: MapValue> RangeMap<K, V> {
     {
         update_range(&mut self.steps, &range.start, &None, op, &EntryCopier)
     }
+
+    /// Gives the longest range around `key` whose keys have its value what the update makes of that.
+    /// Returns `false`, and changes nothing, if `key` has none.
+    ///
+    /// ```text
+    /// bookings.modify(&10, &Moved)?    // 9..11 has what `Moved` makes of Guest::Ada
+    /// ```
+    ///
+    /// It copies the ends of the range. If memory runs out, the map is as it was.
+    pub fn modify<O: MapUpdate<V>>(&mut self, key: &K, op: &O) -> Result<bool, AllocError>
+        ensures values { IfOk result (λ found. found ≡ true →
+            IsModified K.cmp V.eq (O.gives op.now) key.now self.old self.new) }
+        ensures found { IfOk result (λ found. found ≡ is_some (value_at K.cmp self.old key.now)) }
+        ensures unchanged { OnErr result (self.new ≡ self.old) }
+        ensures none { value_at K.cmp self.old key.now ≡ None → (self.new ≡ self.old) × IsOk result }
+    {
+        modify_stretch(&mut self.steps, key, op, &EntryCopier)
+    }
 }
 
 impl<K: Ord + Drop, V: MapValue> RangeMap<K, V> {
@@ -72,6 +94,17 @@ impl<K: Ord + Drop, V: Eq + Drop> RangeMap<K, V> {
         ensures { (x : K) → AreAlike V.eq (value_at K.cmp self.new x)
             (kept (F.is_kept filter.now) (value_at K.cmp self.old x)) }
     {
-        retain_values(&mut self.steps, filter);
+        retain_entries(&mut self.steps, &ByValue(filter));
+    }
+
+    /// Takes away each value that the filter doesn't keep with its range, as `retain` does.
+    ///
+    /// ```text
+    /// bookings.retain_ranges(&Before(12)) // the filter is asked for 9..11, then for 11..14
+    /// ```
+    pub fn retain_ranges<F: RangeFilter<K, V>>(&mut self, filter: &F)
+        ensures { IsRetained K.cmp V.eq (F.is_kept filter.now) self.old self.new }
+    {
+        retain_entries(&mut self.steps, filter);
     }
 }

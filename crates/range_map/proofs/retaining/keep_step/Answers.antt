@@ -4,7 +4,7 @@ use Rattle.std.specs.Option.{option_eq}
 use Rattle.range_list.specs.Lists.{joined, place_at}
 use Rattle.range_map.specs.Combining.{IsPut}
 use Rattle.range_map.specs.Listed.{steps_of}
-use Rattle.range_map.specs.Updated.{kept, kept_step}
+use Rattle.range_map.specs.Updated.{kept_at}
 use Rattle.range_map.specs.declared.step.Step.{Step}
 use Rattle.range_map.proofs.Retained.{item_at, IsPut-stays, IsPut-moved, later-stays, later-moved, len-stays, len-moved}
 use Rattle.range_map.proofs.retaining.keep_step.Goals as goal
@@ -24,7 +24,7 @@ is_like_last-requires-clause-item g c =
       arith,
       c.requires.item,
       (c.drop_unkept.ensures.places c.args.at c.requires.at).1,
-      len-stays g.K.Ord.cmp g.met.K.Ord.total g.V.PartialEq.eq items (place_at c.args.steps.now c.args.end) i c.requires.ordered c.requires.item (g.F.MapFilter.is_kept c.args.filter.now) d
+      len-stays g.K.Ord.cmp g.met.K.Ord.total g.V.PartialEq.eq items (place_at c.args.steps.now c.args.end) i c.requires.ordered c.requires.item (g.F.RangeFilter.is_kept c.args.filter.now) d
           (joined c.drop_unkept.new.steps) (c.drop_unkept.ensures.items d),
     )
 
@@ -33,7 +33,7 @@ returns-then-is_like_last-clause-len g c =
     let items = joined c.args.steps.now in
     let i = place_at c.args.steps.now c.args.at in
     let d = (item_at items i c.requires.item).0 in
-    len-stays g.K.Ord.cmp g.met.K.Ord.total g.V.PartialEq.eq items (place_at c.args.steps.now c.args.end) i c.requires.ordered c.requires.item (g.F.MapFilter.is_kept c.args.filter.now) d
+    len-stays g.K.Ord.cmp g.met.K.Ord.total g.V.PartialEq.eq items (place_at c.args.steps.now c.args.end) i c.requires.ordered c.requires.item (g.F.RangeFilter.is_kept c.args.filter.now) d
     (joined c.drop_unkept.new.steps) (c.drop_unkept.ensures.items d)
 
 pub returns-then-is_like_last-clause-later : goal.returns-then-is_like_last-clause-later
@@ -41,7 +41,7 @@ returns-then-is_like_last-clause-later g c =
     let items = joined c.args.steps.now in
     let i = place_at c.args.steps.now c.args.at in
     let d = (item_at items i c.requires.item).0 in
-    later-stays g.K.Ord.cmp g.met.K.Ord.total g.V.PartialEq.eq items (place_at c.args.steps.now c.args.end) i c.requires.ordered c.requires.item (g.F.MapFilter.is_kept c.args.filter.now) d
+    later-stays g.K.Ord.cmp g.met.K.Ord.total g.V.PartialEq.eq items (place_at c.args.steps.now c.args.end) i c.requires.ordered c.requires.item (g.F.RangeFilter.is_kept c.args.filter.now) d
     (joined c.drop_unkept.new.steps) (c.drop_unkept.ensures.items d)
 
 pub returns-then-is_like_last-clause-place : goal.returns-then-is_like_last-clause-place
@@ -58,7 +58,7 @@ returns-then-is_like_last-clause-put g c = λ d.
     let items = joined lists in
     let i = place_at lists c.args.at in
     let n = place_at lists c.args.end in
-    let test = g.F.MapFilter.is_kept c.args.filter.now in
+    let test = g.F.RangeFilter.is_kept c.args.filter.now in
     let new = joined c.drop_unkept.new.steps in
     let is = c.drop_unkept.ensures.items d in
     let on : c.is_like_last.result ≡ true = c.if-is_like_last.true in
@@ -66,7 +66,7 @@ returns-then-is_like_last-clause-put g c = λ d.
     ∙ ap₂ (λ m k. option_eq E (get_or (None ∷ (steps_of (joined c.drop_unkept.new.steps)).options) m None) (get_or (steps_of (joined c.drop_unkept.new.steps)).options k None))
     (c.drop_unkept.ensures.places c.args.end c.requires.end).1 (c.drop_unkept.ensures.places c.args.at c.requires.at).1
     ∙ ap (λ (xs : List (Step g.row.K.Denot g.row.V.Denot)). option_eq E (get_or (None ∷ (steps_of xs).options) n None) (get_or (steps_of xs).options i None)) (c.drop_unkept.ensures.items d)) on new is in
-    subst (λ (m : ℕ). IsPut order E (steps_of (take n items)) (get_or items i d).key (kept test (get_or items i d).option) (steps_of (take m new))) (sym (c.drop_unkept.ensures.places c.args.end c.requires.end).1) put
+    subst (λ (m : ℕ). IsPut order E (steps_of (take n items)) (get_or items i d).key (kept_at test items i d).option (steps_of (take m new))) (sym (c.drop_unkept.ensures.places c.args.end c.requires.end).1) put
 
 pub swap-requires-clause-a : goal.swap-requires-clause-a
 swap-requires-clause-a g c = (c.drop_unkept.ensures.places c.args.end c.requires.end).0
@@ -87,7 +87,7 @@ swap-requires-clause-b_item g c =
       arith,
       c.requires.item,
       (c.drop_unkept.ensures.places c.args.at c.requires.at).1,
-      len-stays g.K.Ord.cmp g.met.K.Ord.total g.V.PartialEq.eq items (place_at c.args.steps.now c.args.end) i c.requires.ordered c.requires.item (g.F.MapFilter.is_kept c.args.filter.now) d
+      len-stays g.K.Ord.cmp g.met.K.Ord.total g.V.PartialEq.eq items (place_at c.args.steps.now c.args.end) i c.requires.ordered c.requires.item (g.F.RangeFilter.is_kept c.args.filter.now) d
           (joined c.drop_unkept.new.steps) (c.drop_unkept.ensures.items d),
     )
 
@@ -104,12 +104,12 @@ place_after-requires-clause-item g c =
     let items = joined lists in
     let i = place_at lists c.args.at in
     let n = place_at lists c.args.end in
-    let test = g.F.MapFilter.is_kept c.args.filter.now in
+    let test = g.F.RangeFilter.is_kept c.args.filter.now in
     let first = c.drop_unkept.ensures.places c.args.end c.requires.end in
     let second = c.drop_unkept.ensures.places c.args.at c.requires.at in
     let after = c.swap.ensures.places c.args.end first.0 in
     let new = joined c.swap.new.self in
-    let is : (d : Step g.row.K.Denot g.row.V.Denot) → new ≡ swap (set items i (kept_step test (get_or items i d))) n i =
+    let is : (d : Step g.row.K.Denot g.row.V.Denot) → new ≡ swap (set items i (kept_at test items i d)) n i =
     λ (d : Step g.row.K.Denot g.row.V.Denot).
     c.swap.ensures.items ∙ ap (λ m. swap (joined c.drop_unkept.new.steps) m (place_at c.drop_unkept.new.steps c.args.at)) first.1
     ∙ ap (λ m. swap (joined c.drop_unkept.new.steps) n m) second.1 ∙ ap (λ (xs : List (Step g.row.K.Denot g.row.V.Denot)). swap xs n i) (c.drop_unkept.ensures.items d) in
@@ -131,12 +131,12 @@ returns-clause-len g c =
     let items = joined lists in
     let i = place_at lists c.args.at in
     let n = place_at lists c.args.end in
-    let test = g.F.MapFilter.is_kept c.args.filter.now in
+    let test = g.F.RangeFilter.is_kept c.args.filter.now in
     let first = c.drop_unkept.ensures.places c.args.end c.requires.end in
     let second = c.drop_unkept.ensures.places c.args.at c.requires.at in
     let after = c.swap.ensures.places c.args.end first.0 in
     let new = joined c.swap.new.self in
-    let is : (d : Step g.row.K.Denot g.row.V.Denot) → new ≡ swap (set items i (kept_step test (get_or items i d))) n i =
+    let is : (d : Step g.row.K.Denot g.row.V.Denot) → new ≡ swap (set items i (kept_at test items i d)) n i =
     λ (d : Step g.row.K.Denot g.row.V.Denot).
     c.swap.ensures.items ∙ ap (λ m. swap (joined c.drop_unkept.new.steps) m (place_at c.drop_unkept.new.steps c.args.at)) first.1
     ∙ ap (λ m. swap (joined c.drop_unkept.new.steps) n m) second.1 ∙ ap (λ (xs : List (Step g.row.K.Denot g.row.V.Denot)). swap xs n i) (c.drop_unkept.ensures.items d) in
@@ -152,12 +152,12 @@ returns-clause-later g c =
     let items = joined lists in
     let i = place_at lists c.args.at in
     let n = place_at lists c.args.end in
-    let test = g.F.MapFilter.is_kept c.args.filter.now in
+    let test = g.F.RangeFilter.is_kept c.args.filter.now in
     let first = c.drop_unkept.ensures.places c.args.end c.requires.end in
     let second = c.drop_unkept.ensures.places c.args.at c.requires.at in
     let after = c.swap.ensures.places c.args.end first.0 in
     let new = joined c.swap.new.self in
-    let is : (d : Step g.row.K.Denot g.row.V.Denot) → new ≡ swap (set items i (kept_step test (get_or items i d))) n i =
+    let is : (d : Step g.row.K.Denot g.row.V.Denot) → new ≡ swap (set items i (kept_at test items i d)) n i =
     λ (d : Step g.row.K.Denot g.row.V.Denot).
     c.swap.ensures.items ∙ ap (λ m. swap (joined c.drop_unkept.new.steps) m (place_at c.drop_unkept.new.steps c.args.at)) first.1
     ∙ ap (λ m. swap (joined c.drop_unkept.new.steps) n m) second.1 ∙ ap (λ (xs : List (Step g.row.K.Denot g.row.V.Denot)). swap xs n i) (c.drop_unkept.ensures.items d) in
@@ -179,12 +179,12 @@ returns-clause-put g c = λ d.
     let items = joined lists in
     let i = place_at lists c.args.at in
     let n = place_at lists c.args.end in
-    let test = g.F.MapFilter.is_kept c.args.filter.now in
+    let test = g.F.RangeFilter.is_kept c.args.filter.now in
     let first = c.drop_unkept.ensures.places c.args.end c.requires.end in
     let second = c.drop_unkept.ensures.places c.args.at c.requires.at in
     let after = c.swap.ensures.places c.args.end first.0 in
     let new = joined c.swap.new.self in
-    let is : (d : Step g.row.K.Denot g.row.V.Denot) → new ≡ swap (set items i (kept_step test (get_or items i d))) n i =
+    let is : (d : Step g.row.K.Denot g.row.V.Denot) → new ≡ swap (set items i (kept_at test items i d)) n i =
     λ (d : Step g.row.K.Denot g.row.V.Denot).
     c.swap.ensures.items ∙ ap (λ m. swap (joined c.drop_unkept.new.steps) m (place_at c.drop_unkept.new.steps c.args.at)) first.1
     ∙ ap (λ m. swap (joined c.drop_unkept.new.steps) n m) second.1 ∙ ap (λ (xs : List (Step g.row.K.Denot g.row.V.Denot)). swap xs n i) (c.drop_unkept.ensures.items d) in
@@ -193,4 +193,4 @@ returns-clause-put g c = λ d.
     ∙ ap₂ (λ m k. option_eq E (get_or (None ∷ (steps_of (joined c.drop_unkept.new.steps)).options) m None) (get_or (steps_of (joined c.drop_unkept.new.steps)).options k None))
     (c.drop_unkept.ensures.places c.args.end c.requires.end).1 (c.drop_unkept.ensures.places c.args.at c.requires.at).1
     ∙ ap (λ (xs : List (Step g.row.K.Denot g.row.V.Denot)). option_eq E (get_or (None ∷ (steps_of xs).options) n None) (get_or (steps_of xs).options i None)) (c.drop_unkept.ensures.items d)) off new (is d) in
-    subst (λ (m : ℕ). IsPut order E (steps_of (take n items)) (get_or items i d).key (kept test (get_or items i d).option) (steps_of (take m new))) (sym (c.place_after.ensures.after ∙ ap (λ m. m + 1) (after.1 ∙ first.1))) put
+    subst (λ (m : ℕ). IsPut order E (steps_of (take n items)) (get_or items i d).key (kept_at test items i d).option (steps_of (take m new))) (sym (c.place_after.ensures.after ∙ ap (λ m. m + 1) (after.1 ∙ first.1))) put

@@ -1,18 +1,8 @@
-use Rattle.std.proofs.Common.{◌≡◌, ◌∷◌, ◌-◌, ◌<◌, ◌≤◌, Option, None, Some, ℕ, zero, suc, List, length, get_or, map, sym, ap, ◌∙◌, arith, option_copied}
-use Rattle.std.proofs.lemmas.List.{get_or-map}
+use Rattle.std.proofs.Common.{sym, ◌∙◌, option_copied}
 use Rattle.range_list.specs.Lists.{place_at}
 use Rattle.range_map.specs.Listed.{steps_in}
-use Rattle.range_map.proofs.Retained.{item_at}
-use Rattle.range_map.proofs.Stretched.{at_x, IsStretch-around}
+use Rattle.range_map.proofs.Stretched.{at_x, start_from, IsStretch-around}
 use Rattle.range_map.proofs.map.RangeMap.range_at.Goals as goal
-
-start_from : {K : Type 0} (n : ℕ) (ks : List K) (r : Option K) → r ≡ get_or (None ∷ map Some ks) n None → n ≤ length ks →
-    (n ≡ 0 → r ≡ None) × (0 < n → (s : K) × (r ≡ Some s) × (get_or ks (n - 1) s ≡ s))
-start_from zero ks r h within = (λ _. h, λ some. absurd (omega (arith, some)))
-start_from (suc n) ks r h within =
-    let at = item_at ks n (omega (arith, within)) in
-    let one : suc n - 1 ≡ n = omega arith in
-    (λ none. absurd (omega (arith, none)), λ _. (at.0, h ∙ get_or-map Some ks n at.0 None (omega (arith, within)) ∙ ap Some at.1, ap (λ m. get_or ks m at.0) one ∙ at.1))
 
 pub returns-clause-value : goal.returns-clause-value
 returns-clause-value g c =
