@@ -24,15 +24,14 @@ pub(crate) use kept::{Copies, Kept};
 pub(crate) use steps::Changes;
 
 use crate::any_range::{AnyRange, Overlaps, Within};
-use crate::generated::range_collections::Comparisons;
+use crate::generated::range_collections::{self, Comparisons};
 use crate::generated::range_entry::EntryClone;
 use crate::generated::range_map as proved;
 use crate::generated::range_map::places::{option_before, place_below, place_up_to};
-use crate::generated::range_map::{InsertError, MapFilter};
+use crate::generated::range_map::{InsertError, RangeFilter};
 use crate::memory::AllocError;
 use crate::range::RangeSetRange;
 use crate::support::Global;
-use core::cell::RefCell;
 use core::mem;
 use core::ops::Range;
 
@@ -83,10 +82,10 @@ pub struct Map<K: Ord, V: Eq, C>(proved::RangeMap<K, Kept<V, C>>);
 /// A filter by a closure.
 struct KeptIf<F>(F);
 
-impl<V, C, F: Fn(&V) -> bool> MapFilter<Kept<V, C>> for KeptIf<F> {
+impl<K, V, C, F: Fn(RangeSetRange<&K>, &V) -> bool> RangeFilter<K, Kept<V, C>> for KeptIf<F> {
     #[inline(always)]
-    fn keeps(&self, kept: &Kept<V, C>) -> bool {
-        (self.0)(&kept.value)
+    fn keeps(&self, range: range_collections::RangeSetRange<&K>, kept: &Kept<V, C>) -> bool {
+        (self.0)(RangeSetRange::from_proved(range), &kept.value)
     }
 }
 
@@ -307,9 +306,8 @@ impl<K: Ord, V: Eq, C> Map<K, V, C> {
     /// bookings.retain(|guest| *guest == "Ada");
     /// assert_eq!(format!("{bookings:?}"), r#"{9..11: "Ada", 15..16: "Ada"}"#);
     /// ```
-    pub fn retain(&mut self, keep: impl FnMut(&V) -> bool) {
-        let keep = RefCell::new(keep);
-        self.changed(|map| map.retain(&KeptIf(|value: &V| (keep.borrow_mut())(value))));
+    pub fn retain(&mut self, mut keep: impl FnMut(&V) -> bool) {
+        self.retain_ranges(|_, value| keep(value));
     }
 
     /// Takes the value of each key away. It keeps the room for the list of chunks.

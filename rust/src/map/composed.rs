@@ -2,20 +2,20 @@
 //! taken out, two maps in one.
 
 use super::forms::{as_it_is, both_maps, in_ok};
+use super::iter::with_value;
 use super::{Copies, Iter, KeptIf, Map, RangeMap};
 use crate::any_range::AnyRange;
 use crate::chunks;
 use crate::fallible::{EntryClone, MapValue};
 use crate::forms::{ends, fails};
-use crate::generated::range_list::FRONT;
-use crate::generated::range_map::step::{Step, StepOption};
 use crate::generated::range_merge::Copier;
 use crate::memory::AllocError;
 use crate::range::RangeSetRange;
 use crate::range_set::RangeSetRef;
+use core::cell::RefCell;
 use core::iter;
 
-/// These are made of [`iter`](Map::iter).
+/// These read ranges or values alone.
 impl<K: Ord, V: Eq, C> Map<K, V, C> {
     /// Returns the first range that has a value, and that, or `None` if the map is empty.
     ///
@@ -29,7 +29,7 @@ impl<K: Ord, V: Eq, C> Map<K, V, C> {
     /// ```
     #[must_use]
     pub fn first(&self) -> Option<(RangeSetRange<&K>, &V)> {
-        self.iter().next()
+        self.0.first().map(with_value)
     }
 
     /// Returns the last range that has a value, and that, or `None` if the map is empty.
@@ -44,7 +44,7 @@ impl<K: Ord, V: Eq, C> Map<K, V, C> {
     /// ```
     #[must_use]
     pub fn last(&self) -> Option<(RangeSetRange<&K>, &V)> {
-        self.iter().next_back()
+        self.0.last().map(with_value)
     }
 
     /// Returns the range from the first key that has a value to the end of the last range, or
@@ -60,9 +60,7 @@ impl<K: Ord, V: Eq, C> Map<K, V, C> {
     /// ```
     #[must_use]
     pub fn span(&self) -> Option<RangeSetRange<&K>> {
-        let (start, _) = self.first()?.0.into_ends();
-        let (_, end) = self.last()?.0.into_ends();
-        Some(RangeSetRange::of_ends(start, end))
+        self.0.span().map(RangeSetRange::from_proved)
     }
 
     /// Returns an iterator over the ranges that have a value, from the lowest on and from the
@@ -108,21 +106,10 @@ impl<K: Ord, V: Eq, C> Map<K, V, C> {
     /// bookings.retain_ranges(|range, guest| *guest == "Bob" || range.contains(&10));
     /// assert_eq!(format!("{bookings:?}"), r#"{9..11: "Ada", 11..14: "Bob"}"#);
     /// ```
-    pub fn retain_ranges(&mut self, mut keep: impl FnMut(RangeSetRange<&K>, &V) -> bool) {
-        self.changed(|map| {
-            let mut at = FRONT;
-            while let Some(Step { key, option }) = map.steps.item_at(at) {
-                let next = map.steps.place_after(at);
-                let end = map.steps.item_at(next).map(|step| &step.key);
-                let range = RangeSetRange::of_ends(key, end);
-                if !option.as_ref().map_or(true, |it| keep(range, &it.value)) {
-                    map.steps.set_key(at, &StepOption, None);
-                }
-                at = next;
-            }
-            // What stays moves down, and steps without a value become one.
-            map.retain(&KeptIf(|_: &V| true));
-        });
+    pub fn retain_ranges(&mut self, keep: impl FnMut(RangeSetRange<&K>, &V) -> bool) {
+        let keep = RefCell::new(keep);
+        let keep = KeptIf(|range: RangeSetRange<&K>, value: &V| (keep.borrow_mut())(range, value));
+        self.changed(|map| map.retain_ranges(&keep));
     }
 }
 

@@ -51,7 +51,7 @@ impl<'a, K, V, C> Iter<'a, K, V, C> {
 
 /// A range with its value, as callers see it.
 #[inline(always)]
-fn with_value<'a, K, V, C>(
+pub(super) fn with_value<'a, K, V, C>(
     (range, kept): (range_collections::RangeSetRange<&'a K>, &'a Kept<V, C>),
 ) -> (RangeSetRange<&'a K>, &'a V) {
     (RangeSetRange::from_proved(range), &kept.value)
