@@ -114,7 +114,7 @@ MUTANTS = [
     Mutant("a range without an end is free if its start is", "map.rs",
            "self.0.is_free_from(range)", "!self.0.contains_key(&range.start)", "map"),
     Mutant("what is retained goes", "map.rs",
-           "(self.0)(&kept.value)", "!(self.0)(&kept.value)", "map"),
+           "(self.0)(RangeSetRange::", "!(self.0)(RangeSetRange::", "map"),
     Mutant("a refused copy of a value is a panic", "map/kept.rs",
            "C::copied(&self.value).map(Self::new)", "match C::copied(&self.value) {\n            Ok(value) => Ok(Self::new(value)),\n            Err(_) => panic!(),\n        }", "memory"),
     Mutant("what extends a map goes on after a refusal", "fallible/map.rs", ".try_for_each(|(range, value)| self.insert(range, value))",
