@@ -1,5 +1,5 @@
 -- The stretch around a key that is given an option.
-use Rattle.std.proofs.Common.{◌≡◌, ℕ, ◌-◌, ◌<◌, ◌≤◌, ◌&&◌, ◌∷◌, inl, inr, Bool, true, false, cond, None, Some, Option, List, length, get_or, slice_get, refl, sym, ap, ap₂, ◌∙◌, option_copied, arith}
+use Rattle.std.proofs.Common.{◌≡◌, ℕ, ◌-◌, ◌<◌, ◌≤◌, ◌&&◌, ◌∷◌, inl, inr, Bool, true, cond, None, Some, Option, List, length, get_or, slice_get, refl, sym, ap, ap₂, ◌∙◌, option_copied, arith}
 use Rattle.std.proofs.lemmas.List.{get_or_default}
 use Rattle.std.specs.List.{AllWithin}
 use Rattle.std.specs.Borrow.{Bor}

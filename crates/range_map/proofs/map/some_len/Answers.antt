@@ -1,4 +1,4 @@
-use Rattle.std.proofs.Common.{◌≡◌, ◌+◌, ◌≤◌, Bool, true, false, true≢false, sym, List, [], ◌∷◌, Option, Some, None, length, filter, refl, ap, arith}
+use Rattle.std.proofs.Common.{◌≡◌, ◌+◌, ◌≤◌, true, false, true≢false, sym, List, [], ◌∷◌, Option, Some, None, length, filter, refl, ap, arith}
 use Rattle.std.proofs.lemmas.List.{length-map}
 use Rattle.std.specs.Option.{is_some}
 use Rattle.range_map.specs.Listed.{steps_of}

@@ -1,11 +1,9 @@
-use Rattle.std.proofs.Common.{◌≡◌, ◌-◌, ◌<◌, ◌≤◌, None, Some, length, get_or, slice_get, sym, ap, ◌∙◌, option_copied, arith}
+use Rattle.std.proofs.Common.{◌≡◌, ◌-◌, ◌≤◌, Some, length, get_or, slice_get, sym, ap, ◌∙◌, option_copied, arith}
 use Rattle.std.proofs.lemmas.List.{get_or_default}
 use Rattle.std.proofs.lemmas.Result.{on_ok_weaker}
-use Rattle.std.specs.declared.cmp.Ordering.TheVariants.{Equal}
 use Rattle.range_list.specs.Lists.{joined, place_at}
 use Rattle.range_list.proofs.Placed.{place_at-within}
 use Rattle.range_map.specs.Listed.{steps_in}
-use Rattle.range_map.specs.Stretches.{AreEqualEnds}
 use Rattle.range_map.proofs.Listed.{length-keys}
 use Rattle.range_map.proofs.Modified.{IsSetTo-same, copies-ascend}
 use Rattle.range_map.proofs.Stretched.{start_from, some-read}
