@@ -249,7 +249,6 @@ MUTANTS = [
     Mutant("a cursor in chunks doesn't go back", "chunked/cursor.rs", "if !is_on || !is_above(place) {", "if !is_above(place) {", "kinds"),
     Mutant("sets that change sides keep their operation", "relations.rs", "left: op.right,\n        right: op.left,",
            "left: op.left,\n        right: op.right,", "kinds"),
-    Mutant("a set goes on from one value to any other", "range.rs", "if end.as_ref() != Some(&value) {", "if end.is_none() {", "kinds"),
     Mutant("a last value is the end", "range.rs", "T::from_place(end.place() - 1)", "T::from_place(end.place())", "kinds"),
     Mutant("a fraction of a second is nanoseconds", "text/values.rs", " * 10u128.pow(zeros)", "", "text"),
     Mutant("ranges without an end don't count", "map/combining.rs", "if starts.is_empty() {", "if !starts.is_empty() || starts.is_empty() {", "map"),

@@ -9,7 +9,6 @@ use crate::memory::AllocError;
 use crate::text::padded;
 use core::cmp::Ordering;
 use core::fmt;
-use core::iter;
 use core::ops::{
     Bound, Range, RangeBounds, RangeFrom, RangeFull, RangeInclusive, RangeTo, RangeToInclusive,
 };
@@ -262,26 +261,6 @@ impl<T> RangeSetRange<T> {
             Self::RangeFrom(range) => proved::RangeSetRange::RangeFrom(range),
         }
     }
-}
-
-/// The ranges of values, where those that come one after the other are in one.
-#[inline]
-pub(crate) fn runs<T: FromPlace>(
-    values: impl Iterator<Item = T>,
-) -> impl Iterator<Item = RangeSetRange<T>> {
-    let (mut values, mut ahead) = (values.fuse(), None);
-    iter::from_fn(move || {
-        let first = ahead.take().or_else(|| values.next())?;
-        let (start, mut end) = RangeSetRange::of_value(first).into_ends();
-        for value in values.by_ref() {
-            if end.as_ref() != Some(&value) {
-                ahead = Some(value);
-                break;
-            }
-            end = RangeSetRange::of_value(value).into_ends().1;
-        }
-        Some(RangeSetRange::of_ends(start, end))
-    })
 }
 
 /// An end whose values are counted: a value, or a reference to one. The compiler finds the type `U`

@@ -6,7 +6,7 @@ use crate::entry::RangeSetEntry;
 use crate::fallible::EntryClone;
 use crate::forms::{ends, fails};
 use crate::generated::range_collections::FromPlace;
-use crate::range::runs;
+use crate::range::RangeSetRange;
 use crate::range_set::{intersection_of_sets, union_of_sets};
 use crate::view::RangeSetRef;
 use smallvec::SmallVec;
@@ -184,7 +184,7 @@ macro_rules! constructors {
             where
                 T: FromPlace,
             {
-                Self::from_ranges(runs(values.into_iter()))
+                Self::from_ranges(values.into_iter().map(RangeSetRange::of_value))
             }
 
             /// Returns the set of the members of one of the sets at least.
