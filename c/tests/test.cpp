@@ -109,6 +109,9 @@ template <class T> void fits_to_the_end()
             set.first_run(row.within, row.count) == row.run && chunks.first_run(row.within, row.count) == row.run, "first_run in a range");
     }
     check(set.first_fit(from(most - 5), 4) == most - 3 && chunks.first_fit(from(9), 4) == T(9), "first_fit from a number on");
+    // The addresses of 255.255.255.128/25, where T is unsigned.
+    const range_set<T> taken{{T(0), most - 127}};
+    check(taken.first_fit_aligned(from(0), 128, 128) == most - 127 && !taken.first_fit_aligned(from(0), 129, 1), "the last block");
 }
 
 template <class T> static void rows()

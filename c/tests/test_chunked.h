@@ -311,7 +311,7 @@ static void TEST(chunked_fits_far)(void)
 /* Where numbers fit, or are members, up to the greatest one: a list, the same in chunks, and of fits a map whose keys have values there. */
 static void TEST(fits_to_the_end)(void)
 {
-    static const NUMBER few[] = {LEAST, LEAST + 2, MOST - 5, MOST - 3}, open[] = {MOST - 7}, all[] = {LEAST};
+    static const NUMBER few[] = {LEAST, LEAST + 2, MOST - 5, MOST - 3}, open[] = {MOST - 7}, all[] = {LEAST}, block[] = {LEAST, MOST - 127};
     const COUNT most = (COUNT)((COUNT)MOST - (COUNT)LEAST);
     enum { FIT, ALIGNED, RUN };
     const struct {
@@ -332,13 +332,16 @@ static void TEST(fits_to_the_end)(void)
         {"from: one too many", FIT, NULL, 0, LEAST + 2, most, 0, false, 77}, {"from: no end", FIT, open, 1, MOST - 7, 1, 0, false, 77},
         {"from: a multiple", ALIGNED, few, 4, MOST - 5, 4, 4, true, MOST - 3},
         {"from: a multiple at the end", ALIGNED, few, 4, MOST - 2, 2, 2, true, MOST - 1},
+        {"from: the block 255.255.255.128/25 of uint32_t", ALIGNED, block, 2, LEAST, 128, 128, true, MOST - 127},
         {"from: no multiple left", ALIGNED, few, 4, MOST, 1, 2, false, 77}, {"from: of 0", ALIGNED, few, 4, LEAST, 1, 0, false, 77},
         {"from: no number, no multiple", ALIGNED, few, 4, MOST, 0, 2, false, 77},
         {"from: no number at a multiple", ALIGNED, few, 4, MOST - 4, 0, 4, true, MOST - 3},
         {"from: members without an end", RUN, open, 1, LEAST, 8, 0, true, MOST - 7},
         {"from: one member too many", RUN, open, 1, LEAST, 9, 0, false, 77}, {"from: a last member", RUN, open, 1, MOST, 1, 0, true, MOST},
         {"from: members before", RUN, few, 4, LEAST + 1, 2, 0, true, MOST - 5},
-        {"from: all members but one", RUN, all, 1, LEAST, most, 0, true, LEAST}};
+        {"from: all members but one", RUN, all, 1, LEAST, most, 0, true, LEAST},
+        {"from: as many members as there are", RUN, all, 1, LEAST + 1, most, 0, true, LEAST + 1},
+        {"from: one more than there are", RUN, all, 1, LEAST + 2, most, 0, false, 77}};
     size_t row, i;
     for (row = 0; row < sizeof rows / sizeof *rows; row++) {
         const NUMBER start = rows[row].start;

@@ -104,6 +104,8 @@ static void TEST(chunked_printed)(SET list)
 /* The set in chunks of some values, as the list of them. */
 static void TEST(chunked_of_values)(void)
 {
+    /* It lies below the values, which so many would else overlap. */
+    static CHUNKED below;
     NUMBER values[POINTS], wanted[2 * POINTS];
     const size_t count = random_below(POINTS + 1);
     CHUNKED set;
@@ -116,7 +118,7 @@ static void TEST(chunked_of_values)(void)
     CALL(chunked_free)(&set);
     check(CALL(chunked_from_values)(values, count, NULL) == RANGE_SET_BAD_ARGUMENT
               && CALL(chunked_from_values)(NULL, 1, &set) == RANGE_SET_BAD_ARGUMENT
-              && CALL(chunked_from_values)(values, SIZE_MAX / 2, &set) == RANGE_SET_BAD_ARGUMENT
+              && CALL(chunked_from_values)(values, PTRDIFF_MAX / sizeof *values / 2 + 1, &below) == RANGE_SET_BAD_ARGUMENT
               && CALL(chunked_from_values)(values, POINTS, (CHUNKED *)(void *)values) == RANGE_SET_BAD_ARGUMENT,
         "chunked_from_values: null, too many, and in the values");
     check(CALL(chunked_from_values)(NULL, 0, &set) == RANGE_SET_DONE && CALL(chunked_is_empty)(set), "chunked_from_values: of no value");
