@@ -45,6 +45,7 @@ INSTEAD = rows("""
     // A clone of Rust can't fail: one that can has another name.
     range_chunks/set/making, range_map/map/copying: fn clone( → fn try_clone(
     range_collections/range_set, range_collections/range_set_range: fn clone( → fn try_clone(
+    range_c/generated/chunked_i32, range_c/generated/chunked_u32, range_c/generated/chunked_i64, range_c/generated/chunked_u64: .clone() → .try_clone()
     range_c/generated/mapped_i64, range_c/generated/mapped_u64, range_chunks/set/joining, range_map/map/sets, range_map/map/union: .clone() → .try_clone()
     range_collections/view: fn clone(&self) -> Result<Self, AllocError> { Ok(*self) } → fn clone(&self) -> Self { *self }
     range_collections/view/cursor: fn clone(&self) -> Result<Self, AllocError> { Ok(*self) } → fn clone(&self) -> Self { *self }
