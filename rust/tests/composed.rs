@@ -298,6 +298,9 @@ fn sets_in_chunks_as_of_a_range_set() {
             )*};
         }
         same!(| |=; & &=; ^ ^=; - -=;);
+        let pair = [&set, &other];
+        assert!(&set | &other == ChunkedRangeSet::union_all(pair));
+        assert!(&set & &other == ChunkedRangeSet::intersection_all(pair));
         assert!(!&set == !&chunked && !set.clone() == !chunked.clone());
 
         let (mut kept, mut wanted) = (chunked.clone(), set.clone());
