@@ -341,25 +341,29 @@ impl MapUpdate<u64> for Three {
     }
 }
 
-// Gives the options around a key that are alike another one, if they are values.
+// Gives the options around a key that are alike its own another one, if they are values. Returns
+// whether they are.
 fn set_around(options: &mut Options, key: u64, option: Option<u64>) -> bool {
-    let around = options[key as usize];
-    let mut start = 0;
-    for other in 0..key {
-        if options[other as usize] != around {
-            start = other + 1;
+    let mut range = 0..LIMIT;
+    let mut before = options[0];
+    let mut is_some = false;
+    for other in 0..LIMIT {
+        let next = options[other as usize];
+        if other <= key {
+            is_some = next.is_some();
         }
-    }
-    let mut end = LIMIT;
-    for other in key..LIMIT {
-        if end == LIMIT && options[other as usize] != around {
-            end = other;
+        if next != before && other <= key {
+            range.start = other;
         }
+        if next != before && other > key {
+            range.end = range.end.min(other);
+        }
+        before = next;
     }
-    if around.is_some() {
-        set(options, &(start..end), option);
+    if is_some {
+        set(options, &range, option);
     }
-    around.is_some()
+    is_some
 }
 
 #[test]
