@@ -112,9 +112,10 @@ pub(crate) mod chunked {
     use crate::generated::range_c::in_place::overwrite;
     use crate::generated::range_c::parts::put;
     use crate::generated::range_chunks::{ChunkedRangeSet, ChunkedSpace, Iter};
-    use crate::generated::range_collections::{Countable, EntryClone, RangeSetRange, RangeSetRef};
+    use crate::generated::range_collections::{
+        Countable, EntryClone, RangeSetRange, RangeSetRef, ValueRange,
+    };
     use crate::support::{AllocError, Global};
-    use core::ops::Range;
 
     // A set with the boundaries of a list, if there is memory for it.
     pub(crate) fn copied<T: EntryClone>(alloc: Global, a: &[T]) -> Option<ChunkedRangeSet<T>> {
@@ -189,9 +190,9 @@ pub(crate) mod chunked {
 
     // Whether there is a number from which on `count` numbers lie in the range and none is a
     // member, and then writes the least. The set remembers what it learns of its gaps.
-    pub(crate) fn first_fit<T: Countable + Copy>(
+    pub(crate) fn first_fit<T: Countable + Copy, R: ValueRange<T>>(
         set: &mut ChunkedSpace<T>,
-        within: Range<T>,
+        within: R,
         count: u128,
         at: &mut T,
     ) -> bool {
@@ -244,15 +245,14 @@ pub(crate) mod chunked {
 
         use crate::generated::range_c::parts::put;
         use crate::generated::range_chunks::{ChunkedRangeSet, ChunkedSpace};
-        use crate::generated::range_collections::{Countable, FromPlace};
-        use core::ops::Range;
+        use crate::generated::range_collections::{Countable, FromPlace, ValueRange};
 
         // Whether there is a multiple of `align` from which on `count` numbers lie in the range and
         // none is a member, and then writes the least. The set remembers what it learns of its
         // gaps.
-        pub(crate) fn first_fit_aligned<T: FromPlace>(
+        pub(crate) fn first_fit_aligned<T: FromPlace, R: ValueRange<T>>(
             set: &mut ChunkedSpace<T>,
-            within: Range<T>,
+            within: R,
             count: u128,
             align: u128,
             at: &mut T,
@@ -262,9 +262,9 @@ pub(crate) mod chunked {
 
         // Whether there is a number from which on `count` members in a row lie in the range, and
         // then writes the least.
-        pub(crate) fn first_run<T: Countable + Copy>(
+        pub(crate) fn first_run<T: Countable + Copy, R: ValueRange<T>>(
             set: &ChunkedRangeSet<T>,
-            within: Range<T>,
+            within: R,
             count: u128,
             at: &mut T,
         ) -> bool {
@@ -514,17 +514,30 @@ pub(crate) mod ends {
 
 pub(crate) mod fitting {
     // From crates/range_c/src/fitting.rt.
-    //! Where a stretch of numbers fits from a multiple on, and where members are in a row.
+    //! Where a stretch of numbers fits, or fits from a multiple on, and where members are in a row.
 
     use crate::generated::range_c::parts::put;
-    use crate::generated::range_collections::{Countable, FromPlace, RangeSetRef};
-    use core::ops::Range;
+    use crate::generated::range_collections::{Countable, FromPlace, RangeSetRef, ValueRange};
+
+    // Whether there is a number from which on `count` numbers lie in the range and none is a
+    // member, and then writes the least.
+    pub(crate) fn first_fit_count<T: Countable + Copy, R: ValueRange<T>>(
+        a: &[T],
+        within: R,
+        count: u128,
+        at: &mut T,
+    ) -> bool {
+        put(
+            RangeSetRef::new_unchecked(a).first_fit_count(within, count),
+            at,
+        )
+    }
 
     // Whether there is a multiple of `align` from which on `count` numbers lie in the range and
     // none is a member, and then writes the least.
-    pub(crate) fn first_fit_aligned<T: FromPlace>(
+    pub(crate) fn first_fit_aligned<T: FromPlace, R: ValueRange<T>>(
         a: &[T],
-        within: Range<T>,
+        within: R,
         count: u128,
         align: u128,
         at: &mut T,
@@ -537,9 +550,9 @@ pub(crate) mod fitting {
 
     // Whether there is a number from which on `count` members in a row lie in the range, and then
     // writes the least.
-    pub(crate) fn first_run<T: Countable + Copy>(
+    pub(crate) fn first_run<T: Countable + Copy, R: ValueRange<T>>(
         a: &[T],
-        within: Range<T>,
+        within: R,
         count: u128,
         at: &mut T,
     ) -> bool {
@@ -646,6 +659,7 @@ pub(crate) mod generated {
             remove, remove_all, remove_from,
         };
         use crate::generated::range_chunks::ChunkedSpace;
+        use crate::generated::range_collections::RangeSetRef;
         use crate::support::{items_at, room_at, Box, Global, Parts};
         use core::mem::replace;
         use core::ptr::null_mut;
@@ -735,6 +749,22 @@ pub(crate) mod generated {
                 Some(copy) => set.fill(alloc, ChunkedSpace::from_set(alloc, copy)),
                 None => false,
             }
+        }
+
+        /// Makes a set of the same members as `from`, and returns whether there was memory for it.
+        #[no_mangle]
+        pub unsafe extern "C" fn plain_range_set_i32_chunked_clone(
+            set: &mut ChunkedI32,
+            from: &mut ChunkedI32,
+        ) -> bool {
+            let alloc = Global;
+            let taken = from.take(alloc);
+            let done = match taken.set.as_set().try_clone() {
+                Ok(copy) => set.fill(alloc, ChunkedSpace::from_set(alloc, copy)),
+                Err(_) => false,
+            };
+            from.put(taken);
+            done
         }
 
         /// Gives the set's memory back.
@@ -902,6 +932,99 @@ pub(crate) mod generated {
             let alloc = Global;
             let taken = set.take(alloc);
             let answer = taken.set.as_set().is_all();
+            set.put(taken);
+            answer
+        }
+
+        /// Whether some number is a member of both sets.
+        #[no_mangle]
+        pub unsafe extern "C" fn plain_range_set_i32_chunked_intersects(
+            set: &mut ChunkedI32,
+            that: &mut ChunkedI32,
+        ) -> bool {
+            let alloc = Global;
+            let taken = set.take(alloc);
+            let other = that.take(alloc);
+            let answer = taken.set.as_set().intersects(other.set.as_set());
+            that.put(other);
+            set.put(taken);
+            answer
+        }
+
+        /// Whether every member of the set is one of the other.
+        #[no_mangle]
+        pub unsafe extern "C" fn plain_range_set_i32_chunked_is_subset(
+            set: &mut ChunkedI32,
+            that: &mut ChunkedI32,
+        ) -> bool {
+            let alloc = Global;
+            let taken = set.take(alloc);
+            let other = that.take(alloc);
+            let answer = taken.set.as_set().is_subset(other.set.as_set());
+            that.put(other);
+            set.put(taken);
+            answer
+        }
+
+        /// Whether both sets have the same members.
+        #[no_mangle]
+        pub unsafe extern "C" fn plain_range_set_i32_chunked_equal(
+            set: &mut ChunkedI32,
+            that: &mut ChunkedI32,
+        ) -> bool {
+            let alloc = Global;
+            let taken = set.take(alloc);
+            let other = that.take(alloc);
+            let answer = *taken.set.as_set() == *other.set.as_set();
+            that.put(other);
+            set.put(taken);
+            answer
+        }
+
+        /// Whether some number is a member of the set and of a list.
+        #[no_mangle]
+        pub unsafe extern "C" fn plain_range_set_i32_chunked_intersects_list(
+            set: &mut ChunkedI32,
+            b: *const i32,
+            b_len: usize,
+        ) -> bool {
+            let alloc = Global;
+            let b = unsafe { items_at(b, b_len) };
+            let taken = set.take(alloc);
+            let answer = taken.set.as_set().intersects(RangeSetRef::new_unchecked(b));
+            set.put(taken);
+            answer
+        }
+
+        /// Whether every member of the set is one of a list.
+        #[no_mangle]
+        pub unsafe extern "C" fn plain_range_set_i32_chunked_is_subset_list(
+            set: &mut ChunkedI32,
+            b: *const i32,
+            b_len: usize,
+        ) -> bool {
+            let alloc = Global;
+            let b = unsafe { items_at(b, b_len) };
+            let taken = set.take(alloc);
+            let answer = taken.set.as_set().is_subset(RangeSetRef::new_unchecked(b));
+            set.put(taken);
+            answer
+        }
+
+        /// Whether every member of a list is one of the set.
+        #[no_mangle]
+        pub unsafe extern "C" fn plain_range_set_i32_chunked_is_superset_list(
+            set: &mut ChunkedI32,
+            b: *const i32,
+            b_len: usize,
+        ) -> bool {
+            let alloc = Global;
+            let b = unsafe { items_at(b, b_len) };
+            let taken = set.take(alloc);
+            let answer = taken
+                .set
+                .as_set()
+                .is_superset(RangeSetRef::new_unchecked(b));
             set.put(taken);
             answer
         }
@@ -1145,6 +1268,63 @@ pub(crate) mod generated {
             answer
         }
 
+        /// Whether there is a number from which on `count` numbers lie at or above `start` and none
+        /// is a member, and then writes the least one. What it learns of gaps stays for the next
+        /// search.
+        #[no_mangle]
+        pub unsafe extern "C" fn plain_range_set_i32_chunked_first_fit_from(
+            set: &mut ChunkedI32,
+            start: i32,
+            count: u32,
+            at: &mut i32,
+        ) -> bool {
+            let alloc = Global;
+            let mut taken = set.take(alloc);
+            let answer = first_fit(&mut taken.set, start.., u128::from(count), at);
+            set.put(taken);
+            answer
+        }
+
+        /// Whether there is a number from which on `count` numbers lie at or above `start`, none of
+        /// them a member, and which is a multiple of `align`, and then writes the least one. What
+        /// it learns of gaps stays for the next search.
+        #[no_mangle]
+        pub unsafe extern "C" fn plain_range_set_i32_chunked_first_fit_aligned_from(
+            set: &mut ChunkedI32,
+            start: i32,
+            count: u32,
+            align: u32,
+            at: &mut i32,
+        ) -> bool {
+            let alloc = Global;
+            let mut taken = set.take(alloc);
+            let answer = first_fit_aligned(
+                &mut taken.set,
+                start..,
+                u128::from(count),
+                u128::from(align),
+                at,
+            );
+            set.put(taken);
+            answer
+        }
+
+        /// Whether there is a number from which on `count` members in a row lie at or above
+        /// `start`, and then writes the least one.
+        #[no_mangle]
+        pub unsafe extern "C" fn plain_range_set_i32_chunked_first_run_from(
+            set: &mut ChunkedI32,
+            start: i32,
+            count: u32,
+            at: &mut i32,
+        ) -> bool {
+            let alloc = Global;
+            let taken = set.take(alloc);
+            let answer = first_run(taken.set.as_set(), start.., u128::from(count), at);
+            set.put(taken);
+            answer
+        }
+
         /// How many ranges the set has.
         #[no_mangle]
         pub unsafe extern "C" fn plain_range_set_i32_chunked_ranges_len(
@@ -1202,6 +1382,7 @@ pub(crate) mod generated {
             remove, remove_all, remove_from,
         };
         use crate::generated::range_chunks::ChunkedSpace;
+        use crate::generated::range_collections::RangeSetRef;
         use crate::support::{items_at, room_at, Box, Global, Parts};
         use core::mem::replace;
         use core::ptr::null_mut;
@@ -1291,6 +1472,22 @@ pub(crate) mod generated {
                 Some(copy) => set.fill(alloc, ChunkedSpace::from_set(alloc, copy)),
                 None => false,
             }
+        }
+
+        /// Makes a set of the same members as `from`, and returns whether there was memory for it.
+        #[no_mangle]
+        pub unsafe extern "C" fn plain_range_set_i64_chunked_clone(
+            set: &mut ChunkedI64,
+            from: &mut ChunkedI64,
+        ) -> bool {
+            let alloc = Global;
+            let taken = from.take(alloc);
+            let done = match taken.set.as_set().try_clone() {
+                Ok(copy) => set.fill(alloc, ChunkedSpace::from_set(alloc, copy)),
+                Err(_) => false,
+            };
+            from.put(taken);
+            done
         }
 
         /// Gives the set's memory back.
@@ -1458,6 +1655,99 @@ pub(crate) mod generated {
             let alloc = Global;
             let taken = set.take(alloc);
             let answer = taken.set.as_set().is_all();
+            set.put(taken);
+            answer
+        }
+
+        /// Whether some number is a member of both sets.
+        #[no_mangle]
+        pub unsafe extern "C" fn plain_range_set_i64_chunked_intersects(
+            set: &mut ChunkedI64,
+            that: &mut ChunkedI64,
+        ) -> bool {
+            let alloc = Global;
+            let taken = set.take(alloc);
+            let other = that.take(alloc);
+            let answer = taken.set.as_set().intersects(other.set.as_set());
+            that.put(other);
+            set.put(taken);
+            answer
+        }
+
+        /// Whether every member of the set is one of the other.
+        #[no_mangle]
+        pub unsafe extern "C" fn plain_range_set_i64_chunked_is_subset(
+            set: &mut ChunkedI64,
+            that: &mut ChunkedI64,
+        ) -> bool {
+            let alloc = Global;
+            let taken = set.take(alloc);
+            let other = that.take(alloc);
+            let answer = taken.set.as_set().is_subset(other.set.as_set());
+            that.put(other);
+            set.put(taken);
+            answer
+        }
+
+        /// Whether both sets have the same members.
+        #[no_mangle]
+        pub unsafe extern "C" fn plain_range_set_i64_chunked_equal(
+            set: &mut ChunkedI64,
+            that: &mut ChunkedI64,
+        ) -> bool {
+            let alloc = Global;
+            let taken = set.take(alloc);
+            let other = that.take(alloc);
+            let answer = *taken.set.as_set() == *other.set.as_set();
+            that.put(other);
+            set.put(taken);
+            answer
+        }
+
+        /// Whether some number is a member of the set and of a list.
+        #[no_mangle]
+        pub unsafe extern "C" fn plain_range_set_i64_chunked_intersects_list(
+            set: &mut ChunkedI64,
+            b: *const i64,
+            b_len: usize,
+        ) -> bool {
+            let alloc = Global;
+            let b = unsafe { items_at(b, b_len) };
+            let taken = set.take(alloc);
+            let answer = taken.set.as_set().intersects(RangeSetRef::new_unchecked(b));
+            set.put(taken);
+            answer
+        }
+
+        /// Whether every member of the set is one of a list.
+        #[no_mangle]
+        pub unsafe extern "C" fn plain_range_set_i64_chunked_is_subset_list(
+            set: &mut ChunkedI64,
+            b: *const i64,
+            b_len: usize,
+        ) -> bool {
+            let alloc = Global;
+            let b = unsafe { items_at(b, b_len) };
+            let taken = set.take(alloc);
+            let answer = taken.set.as_set().is_subset(RangeSetRef::new_unchecked(b));
+            set.put(taken);
+            answer
+        }
+
+        /// Whether every member of a list is one of the set.
+        #[no_mangle]
+        pub unsafe extern "C" fn plain_range_set_i64_chunked_is_superset_list(
+            set: &mut ChunkedI64,
+            b: *const i64,
+            b_len: usize,
+        ) -> bool {
+            let alloc = Global;
+            let b = unsafe { items_at(b, b_len) };
+            let taken = set.take(alloc);
+            let answer = taken
+                .set
+                .as_set()
+                .is_superset(RangeSetRef::new_unchecked(b));
             set.put(taken);
             answer
         }
@@ -1701,6 +1991,63 @@ pub(crate) mod generated {
             answer
         }
 
+        /// Whether there is a number from which on `count` numbers lie at or above `start` and none
+        /// is a member, and then writes the least one. What it learns of gaps stays for the next
+        /// search.
+        #[no_mangle]
+        pub unsafe extern "C" fn plain_range_set_i64_chunked_first_fit_from(
+            set: &mut ChunkedI64,
+            start: i64,
+            count: u64,
+            at: &mut i64,
+        ) -> bool {
+            let alloc = Global;
+            let mut taken = set.take(alloc);
+            let answer = first_fit(&mut taken.set, start.., u128::from(count), at);
+            set.put(taken);
+            answer
+        }
+
+        /// Whether there is a number from which on `count` numbers lie at or above `start`, none of
+        /// them a member, and which is a multiple of `align`, and then writes the least one. What
+        /// it learns of gaps stays for the next search.
+        #[no_mangle]
+        pub unsafe extern "C" fn plain_range_set_i64_chunked_first_fit_aligned_from(
+            set: &mut ChunkedI64,
+            start: i64,
+            count: u64,
+            align: u64,
+            at: &mut i64,
+        ) -> bool {
+            let alloc = Global;
+            let mut taken = set.take(alloc);
+            let answer = first_fit_aligned(
+                &mut taken.set,
+                start..,
+                u128::from(count),
+                u128::from(align),
+                at,
+            );
+            set.put(taken);
+            answer
+        }
+
+        /// Whether there is a number from which on `count` members in a row lie at or above
+        /// `start`, and then writes the least one.
+        #[no_mangle]
+        pub unsafe extern "C" fn plain_range_set_i64_chunked_first_run_from(
+            set: &mut ChunkedI64,
+            start: i64,
+            count: u64,
+            at: &mut i64,
+        ) -> bool {
+            let alloc = Global;
+            let taken = set.take(alloc);
+            let answer = first_run(taken.set.as_set(), start.., u128::from(count), at);
+            set.put(taken);
+            answer
+        }
+
         /// How many ranges the set has.
         #[no_mangle]
         pub unsafe extern "C" fn plain_range_set_i64_chunked_ranges_len(
@@ -1758,6 +2105,7 @@ pub(crate) mod generated {
             remove, remove_all, remove_from,
         };
         use crate::generated::range_chunks::ChunkedSpace;
+        use crate::generated::range_collections::RangeSetRef;
         use crate::support::{items_at, room_at, Box, Global, Parts};
         use core::mem::replace;
         use core::ptr::null_mut;
@@ -1847,6 +2195,22 @@ pub(crate) mod generated {
                 Some(copy) => set.fill(alloc, ChunkedSpace::from_set(alloc, copy)),
                 None => false,
             }
+        }
+
+        /// Makes a set of the same members as `from`, and returns whether there was memory for it.
+        #[no_mangle]
+        pub unsafe extern "C" fn plain_range_set_u32_chunked_clone(
+            set: &mut ChunkedU32,
+            from: &mut ChunkedU32,
+        ) -> bool {
+            let alloc = Global;
+            let taken = from.take(alloc);
+            let done = match taken.set.as_set().try_clone() {
+                Ok(copy) => set.fill(alloc, ChunkedSpace::from_set(alloc, copy)),
+                Err(_) => false,
+            };
+            from.put(taken);
+            done
         }
 
         /// Gives the set's memory back.
@@ -2014,6 +2378,99 @@ pub(crate) mod generated {
             let alloc = Global;
             let taken = set.take(alloc);
             let answer = taken.set.as_set().is_all();
+            set.put(taken);
+            answer
+        }
+
+        /// Whether some number is a member of both sets.
+        #[no_mangle]
+        pub unsafe extern "C" fn plain_range_set_u32_chunked_intersects(
+            set: &mut ChunkedU32,
+            that: &mut ChunkedU32,
+        ) -> bool {
+            let alloc = Global;
+            let taken = set.take(alloc);
+            let other = that.take(alloc);
+            let answer = taken.set.as_set().intersects(other.set.as_set());
+            that.put(other);
+            set.put(taken);
+            answer
+        }
+
+        /// Whether every member of the set is one of the other.
+        #[no_mangle]
+        pub unsafe extern "C" fn plain_range_set_u32_chunked_is_subset(
+            set: &mut ChunkedU32,
+            that: &mut ChunkedU32,
+        ) -> bool {
+            let alloc = Global;
+            let taken = set.take(alloc);
+            let other = that.take(alloc);
+            let answer = taken.set.as_set().is_subset(other.set.as_set());
+            that.put(other);
+            set.put(taken);
+            answer
+        }
+
+        /// Whether both sets have the same members.
+        #[no_mangle]
+        pub unsafe extern "C" fn plain_range_set_u32_chunked_equal(
+            set: &mut ChunkedU32,
+            that: &mut ChunkedU32,
+        ) -> bool {
+            let alloc = Global;
+            let taken = set.take(alloc);
+            let other = that.take(alloc);
+            let answer = *taken.set.as_set() == *other.set.as_set();
+            that.put(other);
+            set.put(taken);
+            answer
+        }
+
+        /// Whether some number is a member of the set and of a list.
+        #[no_mangle]
+        pub unsafe extern "C" fn plain_range_set_u32_chunked_intersects_list(
+            set: &mut ChunkedU32,
+            b: *const u32,
+            b_len: usize,
+        ) -> bool {
+            let alloc = Global;
+            let b = unsafe { items_at(b, b_len) };
+            let taken = set.take(alloc);
+            let answer = taken.set.as_set().intersects(RangeSetRef::new_unchecked(b));
+            set.put(taken);
+            answer
+        }
+
+        /// Whether every member of the set is one of a list.
+        #[no_mangle]
+        pub unsafe extern "C" fn plain_range_set_u32_chunked_is_subset_list(
+            set: &mut ChunkedU32,
+            b: *const u32,
+            b_len: usize,
+        ) -> bool {
+            let alloc = Global;
+            let b = unsafe { items_at(b, b_len) };
+            let taken = set.take(alloc);
+            let answer = taken.set.as_set().is_subset(RangeSetRef::new_unchecked(b));
+            set.put(taken);
+            answer
+        }
+
+        /// Whether every member of a list is one of the set.
+        #[no_mangle]
+        pub unsafe extern "C" fn plain_range_set_u32_chunked_is_superset_list(
+            set: &mut ChunkedU32,
+            b: *const u32,
+            b_len: usize,
+        ) -> bool {
+            let alloc = Global;
+            let b = unsafe { items_at(b, b_len) };
+            let taken = set.take(alloc);
+            let answer = taken
+                .set
+                .as_set()
+                .is_superset(RangeSetRef::new_unchecked(b));
             set.put(taken);
             answer
         }
@@ -2257,6 +2714,63 @@ pub(crate) mod generated {
             answer
         }
 
+        /// Whether there is a number from which on `count` numbers lie at or above `start` and none
+        /// is a member, and then writes the least one. What it learns of gaps stays for the next
+        /// search.
+        #[no_mangle]
+        pub unsafe extern "C" fn plain_range_set_u32_chunked_first_fit_from(
+            set: &mut ChunkedU32,
+            start: u32,
+            count: u32,
+            at: &mut u32,
+        ) -> bool {
+            let alloc = Global;
+            let mut taken = set.take(alloc);
+            let answer = first_fit(&mut taken.set, start.., u128::from(count), at);
+            set.put(taken);
+            answer
+        }
+
+        /// Whether there is a number from which on `count` numbers lie at or above `start`, none of
+        /// them a member, and which is a multiple of `align`, and then writes the least one. What
+        /// it learns of gaps stays for the next search.
+        #[no_mangle]
+        pub unsafe extern "C" fn plain_range_set_u32_chunked_first_fit_aligned_from(
+            set: &mut ChunkedU32,
+            start: u32,
+            count: u32,
+            align: u32,
+            at: &mut u32,
+        ) -> bool {
+            let alloc = Global;
+            let mut taken = set.take(alloc);
+            let answer = first_fit_aligned(
+                &mut taken.set,
+                start..,
+                u128::from(count),
+                u128::from(align),
+                at,
+            );
+            set.put(taken);
+            answer
+        }
+
+        /// Whether there is a number from which on `count` members in a row lie at or above
+        /// `start`, and then writes the least one.
+        #[no_mangle]
+        pub unsafe extern "C" fn plain_range_set_u32_chunked_first_run_from(
+            set: &mut ChunkedU32,
+            start: u32,
+            count: u32,
+            at: &mut u32,
+        ) -> bool {
+            let alloc = Global;
+            let taken = set.take(alloc);
+            let answer = first_run(taken.set.as_set(), start.., u128::from(count), at);
+            set.put(taken);
+            answer
+        }
+
         /// How many ranges the set has.
         #[no_mangle]
         pub unsafe extern "C" fn plain_range_set_u32_chunked_ranges_len(
@@ -2314,6 +2828,7 @@ pub(crate) mod generated {
             remove, remove_all, remove_from,
         };
         use crate::generated::range_chunks::ChunkedSpace;
+        use crate::generated::range_collections::RangeSetRef;
         use crate::support::{items_at, room_at, Box, Global, Parts};
         use core::mem::replace;
         use core::ptr::null_mut;
@@ -2403,6 +2918,22 @@ pub(crate) mod generated {
                 Some(copy) => set.fill(alloc, ChunkedSpace::from_set(alloc, copy)),
                 None => false,
             }
+        }
+
+        /// Makes a set of the same members as `from`, and returns whether there was memory for it.
+        #[no_mangle]
+        pub unsafe extern "C" fn plain_range_set_u64_chunked_clone(
+            set: &mut ChunkedU64,
+            from: &mut ChunkedU64,
+        ) -> bool {
+            let alloc = Global;
+            let taken = from.take(alloc);
+            let done = match taken.set.as_set().try_clone() {
+                Ok(copy) => set.fill(alloc, ChunkedSpace::from_set(alloc, copy)),
+                Err(_) => false,
+            };
+            from.put(taken);
+            done
         }
 
         /// Gives the set's memory back.
@@ -2570,6 +3101,99 @@ pub(crate) mod generated {
             let alloc = Global;
             let taken = set.take(alloc);
             let answer = taken.set.as_set().is_all();
+            set.put(taken);
+            answer
+        }
+
+        /// Whether some number is a member of both sets.
+        #[no_mangle]
+        pub unsafe extern "C" fn plain_range_set_u64_chunked_intersects(
+            set: &mut ChunkedU64,
+            that: &mut ChunkedU64,
+        ) -> bool {
+            let alloc = Global;
+            let taken = set.take(alloc);
+            let other = that.take(alloc);
+            let answer = taken.set.as_set().intersects(other.set.as_set());
+            that.put(other);
+            set.put(taken);
+            answer
+        }
+
+        /// Whether every member of the set is one of the other.
+        #[no_mangle]
+        pub unsafe extern "C" fn plain_range_set_u64_chunked_is_subset(
+            set: &mut ChunkedU64,
+            that: &mut ChunkedU64,
+        ) -> bool {
+            let alloc = Global;
+            let taken = set.take(alloc);
+            let other = that.take(alloc);
+            let answer = taken.set.as_set().is_subset(other.set.as_set());
+            that.put(other);
+            set.put(taken);
+            answer
+        }
+
+        /// Whether both sets have the same members.
+        #[no_mangle]
+        pub unsafe extern "C" fn plain_range_set_u64_chunked_equal(
+            set: &mut ChunkedU64,
+            that: &mut ChunkedU64,
+        ) -> bool {
+            let alloc = Global;
+            let taken = set.take(alloc);
+            let other = that.take(alloc);
+            let answer = *taken.set.as_set() == *other.set.as_set();
+            that.put(other);
+            set.put(taken);
+            answer
+        }
+
+        /// Whether some number is a member of the set and of a list.
+        #[no_mangle]
+        pub unsafe extern "C" fn plain_range_set_u64_chunked_intersects_list(
+            set: &mut ChunkedU64,
+            b: *const u64,
+            b_len: usize,
+        ) -> bool {
+            let alloc = Global;
+            let b = unsafe { items_at(b, b_len) };
+            let taken = set.take(alloc);
+            let answer = taken.set.as_set().intersects(RangeSetRef::new_unchecked(b));
+            set.put(taken);
+            answer
+        }
+
+        /// Whether every member of the set is one of a list.
+        #[no_mangle]
+        pub unsafe extern "C" fn plain_range_set_u64_chunked_is_subset_list(
+            set: &mut ChunkedU64,
+            b: *const u64,
+            b_len: usize,
+        ) -> bool {
+            let alloc = Global;
+            let b = unsafe { items_at(b, b_len) };
+            let taken = set.take(alloc);
+            let answer = taken.set.as_set().is_subset(RangeSetRef::new_unchecked(b));
+            set.put(taken);
+            answer
+        }
+
+        /// Whether every member of a list is one of the set.
+        #[no_mangle]
+        pub unsafe extern "C" fn plain_range_set_u64_chunked_is_superset_list(
+            set: &mut ChunkedU64,
+            b: *const u64,
+            b_len: usize,
+        ) -> bool {
+            let alloc = Global;
+            let b = unsafe { items_at(b, b_len) };
+            let taken = set.take(alloc);
+            let answer = taken
+                .set
+                .as_set()
+                .is_superset(RangeSetRef::new_unchecked(b));
             set.put(taken);
             answer
         }
@@ -2813,6 +3437,63 @@ pub(crate) mod generated {
             answer
         }
 
+        /// Whether there is a number from which on `count` numbers lie at or above `start` and none
+        /// is a member, and then writes the least one. What it learns of gaps stays for the next
+        /// search.
+        #[no_mangle]
+        pub unsafe extern "C" fn plain_range_set_u64_chunked_first_fit_from(
+            set: &mut ChunkedU64,
+            start: u64,
+            count: u64,
+            at: &mut u64,
+        ) -> bool {
+            let alloc = Global;
+            let mut taken = set.take(alloc);
+            let answer = first_fit(&mut taken.set, start.., u128::from(count), at);
+            set.put(taken);
+            answer
+        }
+
+        /// Whether there is a number from which on `count` numbers lie at or above `start`, none of
+        /// them a member, and which is a multiple of `align`, and then writes the least one. What
+        /// it learns of gaps stays for the next search.
+        #[no_mangle]
+        pub unsafe extern "C" fn plain_range_set_u64_chunked_first_fit_aligned_from(
+            set: &mut ChunkedU64,
+            start: u64,
+            count: u64,
+            align: u64,
+            at: &mut u64,
+        ) -> bool {
+            let alloc = Global;
+            let mut taken = set.take(alloc);
+            let answer = first_fit_aligned(
+                &mut taken.set,
+                start..,
+                u128::from(count),
+                u128::from(align),
+                at,
+            );
+            set.put(taken);
+            answer
+        }
+
+        /// Whether there is a number from which on `count` members in a row lie at or above
+        /// `start`, and then writes the least one.
+        #[no_mangle]
+        pub unsafe extern "C" fn plain_range_set_u64_chunked_first_run_from(
+            set: &mut ChunkedU64,
+            start: u64,
+            count: u64,
+            at: &mut u64,
+        ) -> bool {
+            let alloc = Global;
+            let taken = set.take(alloc);
+            let answer = first_run(taken.set.as_set(), start.., u128::from(count), at);
+            set.put(taken);
+            answer
+        }
+
         /// How many ranges the set has.
         #[no_mangle]
         pub unsafe extern "C" fn plain_range_set_u64_chunked_ranges_len(
@@ -3019,6 +3700,15 @@ pub(crate) mod generated {
             let done = remove_from(&mut taken.map, start);
             map.put(taken);
             done
+        }
+
+        /// Takes all values away.
+        #[no_mangle]
+        pub unsafe extern "C" fn plain_range_map_i64_clear(map: &mut MappedI64) {
+            let alloc = Global;
+            let mut taken = map.take(alloc);
+            taken.map.clear();
+            map.put(taken);
         }
 
         /// Whether the key has a value, and then writes it.
@@ -3255,6 +3945,15 @@ pub(crate) mod generated {
             done
         }
 
+        /// Takes all values away.
+        #[no_mangle]
+        pub unsafe extern "C" fn plain_range_map_u64_clear(map: &mut MappedU64) {
+            let alloc = Global;
+            let mut taken = map.take(alloc);
+            taken.map.clear();
+            map.put(taken);
+        }
+
         /// Whether the key has a value, and then writes it.
         #[no_mangle]
         pub unsafe extern "C" fn plain_range_map_u64_get(
@@ -3330,7 +4029,7 @@ pub(crate) mod generated {
         use crate::generated::range_c::combining::combine_within;
         use crate::generated::range_c::each::contains_each;
         use crate::generated::range_c::ends::Ends;
-        use crate::generated::range_c::fitting::{first_fit_aligned, first_run};
+        use crate::generated::range_c::fitting::{first_fit_aligned, first_fit_count, first_run};
         use crate::generated::range_c::from_least::combine_from;
         use crate::generated::range_c::in_place::{insert, remove};
         use crate::generated::range_c::members::{prev_gap, prev_member, rank, select};
@@ -3778,6 +4477,20 @@ pub(crate) mod generated {
             )
         }
 
+        /// Whether there is a number from which on `count` numbers lie at or above `start` and none
+        /// is a member, and then writes the least.
+        #[no_mangle]
+        pub unsafe extern "C" fn plain_range_set_i32_first_fit_from(
+            a: *const i32,
+            a_len: usize,
+            start: i32,
+            count: u32,
+            at: &mut i32,
+        ) -> bool {
+            let a = unsafe { items_at(a, a_len) };
+            first_fit_count(a, start.., u128::from(count), at)
+        }
+
         /// Whether there is a number from which on `count` numbers lie between `start` and `end`,
         /// none of them a member, and which is a multiple of `align`, and then writes the least
         /// one.
@@ -3808,6 +4521,35 @@ pub(crate) mod generated {
         ) -> bool {
             let a = unsafe { items_at(a, a_len) };
             first_run(a, start..end, u128::from(count), at)
+        }
+
+        /// Whether there is a number from which on `count` numbers lie at or above `start`, none of
+        /// them a member, and which is a multiple of `align`, and then writes the least one.
+        #[no_mangle]
+        pub unsafe extern "C" fn plain_range_set_i32_first_fit_aligned_from(
+            a: *const i32,
+            a_len: usize,
+            start: i32,
+            count: u32,
+            align: u32,
+            at: &mut i32,
+        ) -> bool {
+            let a = unsafe { items_at(a, a_len) };
+            first_fit_aligned(a, start.., u128::from(count), u128::from(align), at)
+        }
+
+        /// Whether there is a number from which on `count` members in a row lie at or above
+        /// `start`, and then writes the least one.
+        #[no_mangle]
+        pub unsafe extern "C" fn plain_range_set_i32_first_run_from(
+            a: *const i32,
+            a_len: usize,
+            start: i32,
+            count: u32,
+            at: &mut i32,
+        ) -> bool {
+            let a = unsafe { items_at(a, a_len) };
+            first_run(a, start.., u128::from(count), at)
         }
 
         /// Sorts the numbers, in any order, and moves the distinct ones to the front, as many as it
@@ -3928,7 +4670,7 @@ pub(crate) mod generated {
         use crate::generated::range_c::combining::combine_within;
         use crate::generated::range_c::each::contains_each;
         use crate::generated::range_c::ends::Ends;
-        use crate::generated::range_c::fitting::{first_fit_aligned, first_run};
+        use crate::generated::range_c::fitting::{first_fit_aligned, first_fit_count, first_run};
         use crate::generated::range_c::from_least::combine_from;
         use crate::generated::range_c::in_place::{insert, remove};
         use crate::generated::range_c::members::{prev_gap, prev_member, rank, select};
@@ -4376,6 +5118,20 @@ pub(crate) mod generated {
             )
         }
 
+        /// Whether there is a number from which on `count` numbers lie at or above `start` and none
+        /// is a member, and then writes the least.
+        #[no_mangle]
+        pub unsafe extern "C" fn plain_range_set_i64_first_fit_from(
+            a: *const i64,
+            a_len: usize,
+            start: i64,
+            count: u64,
+            at: &mut i64,
+        ) -> bool {
+            let a = unsafe { items_at(a, a_len) };
+            first_fit_count(a, start.., u128::from(count), at)
+        }
+
         /// Whether there is a number from which on `count` numbers lie between `start` and `end`,
         /// none of them a member, and which is a multiple of `align`, and then writes the least
         /// one.
@@ -4406,6 +5162,35 @@ pub(crate) mod generated {
         ) -> bool {
             let a = unsafe { items_at(a, a_len) };
             first_run(a, start..end, u128::from(count), at)
+        }
+
+        /// Whether there is a number from which on `count` numbers lie at or above `start`, none of
+        /// them a member, and which is a multiple of `align`, and then writes the least one.
+        #[no_mangle]
+        pub unsafe extern "C" fn plain_range_set_i64_first_fit_aligned_from(
+            a: *const i64,
+            a_len: usize,
+            start: i64,
+            count: u64,
+            align: u64,
+            at: &mut i64,
+        ) -> bool {
+            let a = unsafe { items_at(a, a_len) };
+            first_fit_aligned(a, start.., u128::from(count), u128::from(align), at)
+        }
+
+        /// Whether there is a number from which on `count` members in a row lie at or above
+        /// `start`, and then writes the least one.
+        #[no_mangle]
+        pub unsafe extern "C" fn plain_range_set_i64_first_run_from(
+            a: *const i64,
+            a_len: usize,
+            start: i64,
+            count: u64,
+            at: &mut i64,
+        ) -> bool {
+            let a = unsafe { items_at(a, a_len) };
+            first_run(a, start.., u128::from(count), at)
         }
 
         /// Sorts the numbers, in any order, and moves the distinct ones to the front, as many as it
@@ -4526,7 +5311,7 @@ pub(crate) mod generated {
         use crate::generated::range_c::combining::combine_within;
         use crate::generated::range_c::each::contains_each;
         use crate::generated::range_c::ends::Ends;
-        use crate::generated::range_c::fitting::{first_fit_aligned, first_run};
+        use crate::generated::range_c::fitting::{first_fit_aligned, first_fit_count, first_run};
         use crate::generated::range_c::from_least::combine_from;
         use crate::generated::range_c::in_place::{insert, remove};
         use crate::generated::range_c::members::{prev_gap, prev_member, rank, select};
@@ -4970,6 +5755,20 @@ pub(crate) mod generated {
             first_fit(a, start, end, len, at)
         }
 
+        /// Whether there is a number from which on `count` numbers lie at or above `start` and none
+        /// is a member, and then writes the least.
+        #[no_mangle]
+        pub unsafe extern "C" fn plain_range_set_u32_first_fit_from(
+            a: *const u32,
+            a_len: usize,
+            start: u32,
+            count: u32,
+            at: &mut u32,
+        ) -> bool {
+            let a = unsafe { items_at(a, a_len) };
+            first_fit_count(a, start.., u128::from(count), at)
+        }
+
         /// Whether there is a number from which on `count` numbers lie between `start` and `end`,
         /// none of them a member, and which is a multiple of `align`, and then writes the least
         /// one.
@@ -5000,6 +5799,35 @@ pub(crate) mod generated {
         ) -> bool {
             let a = unsafe { items_at(a, a_len) };
             first_run(a, start..end, u128::from(count), at)
+        }
+
+        /// Whether there is a number from which on `count` numbers lie at or above `start`, none of
+        /// them a member, and which is a multiple of `align`, and then writes the least one.
+        #[no_mangle]
+        pub unsafe extern "C" fn plain_range_set_u32_first_fit_aligned_from(
+            a: *const u32,
+            a_len: usize,
+            start: u32,
+            count: u32,
+            align: u32,
+            at: &mut u32,
+        ) -> bool {
+            let a = unsafe { items_at(a, a_len) };
+            first_fit_aligned(a, start.., u128::from(count), u128::from(align), at)
+        }
+
+        /// Whether there is a number from which on `count` members in a row lie at or above
+        /// `start`, and then writes the least one.
+        #[no_mangle]
+        pub unsafe extern "C" fn plain_range_set_u32_first_run_from(
+            a: *const u32,
+            a_len: usize,
+            start: u32,
+            count: u32,
+            at: &mut u32,
+        ) -> bool {
+            let a = unsafe { items_at(a, a_len) };
+            first_run(a, start.., u128::from(count), at)
         }
 
         /// Sorts the numbers, in any order, and moves the distinct ones to the front, as many as it
@@ -5120,7 +5948,7 @@ pub(crate) mod generated {
         use crate::generated::range_c::combining::combine_within;
         use crate::generated::range_c::each::contains_each;
         use crate::generated::range_c::ends::Ends;
-        use crate::generated::range_c::fitting::{first_fit_aligned, first_run};
+        use crate::generated::range_c::fitting::{first_fit_aligned, first_fit_count, first_run};
         use crate::generated::range_c::from_least::combine_from;
         use crate::generated::range_c::in_place::{insert, remove};
         use crate::generated::range_c::members::{prev_gap, prev_member, rank, select};
@@ -5564,6 +6392,20 @@ pub(crate) mod generated {
             first_fit(a, start, end, len, at)
         }
 
+        /// Whether there is a number from which on `count` numbers lie at or above `start` and none
+        /// is a member, and then writes the least.
+        #[no_mangle]
+        pub unsafe extern "C" fn plain_range_set_u64_first_fit_from(
+            a: *const u64,
+            a_len: usize,
+            start: u64,
+            count: u64,
+            at: &mut u64,
+        ) -> bool {
+            let a = unsafe { items_at(a, a_len) };
+            first_fit_count(a, start.., u128::from(count), at)
+        }
+
         /// Whether there is a number from which on `count` numbers lie between `start` and `end`,
         /// none of them a member, and which is a multiple of `align`, and then writes the least
         /// one.
@@ -5594,6 +6436,35 @@ pub(crate) mod generated {
         ) -> bool {
             let a = unsafe { items_at(a, a_len) };
             first_run(a, start..end, u128::from(count), at)
+        }
+
+        /// Whether there is a number from which on `count` numbers lie at or above `start`, none of
+        /// them a member, and which is a multiple of `align`, and then writes the least one.
+        #[no_mangle]
+        pub unsafe extern "C" fn plain_range_set_u64_first_fit_aligned_from(
+            a: *const u64,
+            a_len: usize,
+            start: u64,
+            count: u64,
+            align: u64,
+            at: &mut u64,
+        ) -> bool {
+            let a = unsafe { items_at(a, a_len) };
+            first_fit_aligned(a, start.., u128::from(count), u128::from(align), at)
+        }
+
+        /// Whether there is a number from which on `count` members in a row lie at or above
+        /// `start`, and then writes the least one.
+        #[no_mangle]
+        pub unsafe extern "C" fn plain_range_set_u64_first_run_from(
+            a: *const u64,
+            a_len: usize,
+            start: u64,
+            count: u64,
+            at: &mut u64,
+        ) -> bool {
+            let a = unsafe { items_at(a, a_len) };
+            first_run(a, start.., u128::from(count), at)
         }
 
         /// Sorts the numbers, in any order, and moves the distinct ones to the front, as many as it

@@ -5,6 +5,7 @@
 
 pub use any_set::AnySet;
 pub use iter::Iter;
+pub use retaining::RangeFilter;
 pub use set::ChunkedRangeSet;
 pub use space::ChunkedSpace;
 pub use within::{Gaps, RangesWithin};
@@ -452,14 +453,36 @@ pub(crate) mod merging {
         that: &[T],
         op: &O,
     ) -> Result<(), AllocError> {
+        if !op.takes_a(false) {
+            let taken = merged_apart(list, that, op)?;
+            *list = taken;
+            return Ok(());
+        }
         let (from, to) = window(list, that);
         let made = merged_between(list, from, to, that, op)?;
-        if op.takes_a(false) {
-            return list.replace_between(from, to, made);
-        }
-        let taken = Chunks::from_list(made)?;
-        *list = taken;
-        Ok(())
+        list.replace_between(from, to, made)
+    }
+
+    /// Clones of the result of an operation that takes nothing of the list where the other one has
+    /// no members. It clones no more than the window that the other boundaries can touch.
+    ///
+    /// # Contract
+    ///
+    /// ```text
+    /// requires off: O.connective op.now false false ≡ false
+    /// requires apart: O.connective op.now true false ≡ false
+    /// requires own_ascending: IsAscending T.cmp (joined list.now)
+    /// requires that_ascending: IsAscending T.cmp that.now
+    /// ensures IfOk result (λ made. IsTheResult T.cmp EveryElement (O.connective op.now) (joined
+    ///     list.now) that.now (IsItselfOr T.is_copy) T.is_copy (joined made))
+    /// ```
+    pub(crate) fn merged_apart<T: EntryClone, O: MergeOperation>(
+        list: &Chunks<T, bool>,
+        that: &[T],
+        op: &O,
+    ) -> Result<Chunks<T, bool>, AllocError> {
+        let (from, to) = window(list, that);
+        Chunks::from_list(merged_between(list, from, to, that, op)?)
     }
 
     // Clones of the operation's result on the boundaries between two places and the other ones.
@@ -699,6 +722,98 @@ pub(crate) mod relating {
             Some(first) => first.cmp(at).is_lt(),
             None => false,
         }
+    }
+}
+
+pub(crate) mod retaining {
+    // From crates/range_chunks/src/retaining.rt.
+    //! Whole ranges kept by a filter, in place: the boundaries of those that stay move down.
+
+    use crate::generated::range_chunks::iter::Iter;
+    use crate::generated::range_collections::RangeSetRange;
+    use crate::generated::range_list::{Chunks, Place, FRONT};
+
+    /// Which ranges `retain` keeps: the trait that a caller implements.
+    pub trait RangeFilter<T> {
+        /// Whether this range stays.
+        ///
+        /// # Contract
+        ///
+        /// ```text
+        /// ensures result ≡ is_kept self.now (range_now range.entry)
+        /// ```
+        fn keeps(&self, range: RangeSetRange<&T>) -> bool;
+    }
+
+    /// Removes each range that the filter doesn't keep.
+    ///
+    /// # Contract
+    ///
+    /// ```text
+    /// requires IsAscending T.cmp (joined list.old)
+    /// ensures sorted: IsAscending T.cmp (joined list.new)
+    /// ensures ranges: ranges_of (joined list.new) ≡ filter (F.is_kept by.now) (ranges_of (joined
+    ///     list.old))
+    /// ```
+    pub(crate) fn retain_ranges<T: Ord, F: RangeFilter<T>>(list: &mut Chunks<T, bool>, by: &F) {
+        let mut end = FRONT;
+        let mut at = FRONT;
+        while list.is_before(at, list.end()) {
+            end = keep_range(list, end, at, by);
+            at = range_end(list, at);
+        }
+        list.truncate(end);
+    }
+
+    // Moves the range that starts at a place down to the end of those that were kept, if the filter
+    // keeps it. Returns the new end.
+    fn keep_range<T, F: RangeFilter<T>>(
+        list: &mut Chunks<T, bool>,
+        end: Place,
+        at: Place,
+        by: &F,
+    ) -> Place {
+        if keeps_at(list, at, by) {
+            move_range(list, end, at)
+        } else {
+            end
+        }
+    }
+
+    // Whether the filter keeps the range that starts at a place.
+    fn keeps_at<T, F: RangeFilter<T>>(list: &Chunks<T, bool>, at: Place, by: &F) -> bool {
+        match Iter::between(list, at, list.end()).next() {
+            Some(range) => by.keeps(range),
+            None => false,
+        }
+    }
+
+    // The place behind the range that starts at a place.
+    fn range_end<T>(list: &Chunks<T, bool>, at: Place) -> Place {
+        let second = list.place_after(at);
+        if list.is_before(second, list.end()) {
+            list.place_after(second)
+        } else {
+            second
+        }
+    }
+
+    // Moves the boundaries of the range that starts at a place down to the end of those that were
+    // kept. Returns the new end.
+    fn move_range<T>(list: &mut Chunks<T, bool>, end: Place, at: Place) -> Place {
+        let second = list.place_after(at);
+        let after = move_down(list, end, at);
+        if list.is_before(second, list.end()) {
+            move_down(list, after, second)
+        } else {
+            after
+        }
+    }
+
+    // Moves the boundary at a place down to the end of those that were kept. Returns the new end.
+    fn move_down<T>(list: &mut Chunks<T, bool>, end: Place, at: Place) -> Place {
+        list.swap(end, at);
+        list.place_after(end)
     }
 }
 
@@ -1369,6 +1484,90 @@ pub(crate) mod set {
         }
     }
 
+    pub(crate) mod joining {
+        // From crates/range_chunks/src/set/joining.rt.
+        //! Sets in chunks joined with others, and cut in two.
+
+        use crate::generated::range_chunks::merging::{merge_into, merged_apart};
+        use crate::generated::range_chunks::set::ChunkedRangeSet;
+        use crate::generated::range_collections::{
+            EntryClone, IntersectionOp, MergeOperation, UnionOp,
+        };
+        use crate::generated::range_list::Itself;
+        use crate::support::{AllocError, Vec};
+
+        impl<T: EntryClone> ChunkedRangeSet<T> {
+            // Changes this set to the operation's result with `that`.
+            pub(crate) fn merge_set<O: MergeOperation>(
+                &mut self,
+                that: Self,
+                op: &O,
+            ) -> Result<(), AllocError> {
+                let ChunkedRangeSet { list } = that;
+                match list.into_list(&Itself) {
+                    Ok(boundaries) => merge_into(&mut self.list, boundaries.as_slice(), op),
+                    Err((error, _)) => Err(error),
+                }
+            }
+
+            /// Adds the members of `that`, which is empty then.
+            ///
+            /// It puts clones of the boundaries of `that`, and goes over this set's own as
+            /// `union_with` does. If an allocation or a clone fails, both sets are as they were.
+            ///
+            /// ```text
+            /// busy.append(&mut more)?      // busy has the members of both
+            /// ```
+            ///
+            /// # Contract
+            ///
+            /// ```text
+            /// ensures members: OnOk result ((x : T) → member T.cmp self.new x ≡ (member T.cmp self.old x
+            ///     || member T.cmp that.old x))
+            /// ensures emptied: OnOk result (that.new ≡ [])
+            /// ensures unchanged: OnErr result ((self.new ≡ self.old) × (that.new ≡ that.old))
+            /// ```
+            pub fn append(&mut self, that: &mut Self) -> Result<(), AllocError> {
+                self.merge_set(that.try_clone()?, &UnionOp)?;
+                that.clear();
+                Ok(())
+            }
+
+            /// Removes the members at and above `at`, and returns the set of them.
+            ///
+            /// It puts clones of the boundaries above `at`. If an allocation or a clone fails, this
+            /// set is as it was.
+            ///
+            /// ```text
+            /// let late = busy.split_off(&16)?;      // 16..18, of 9..11, 15..18
+            /// ```
+            ///
+            /// # Contract
+            ///
+            /// ```text
+            /// ensures above: IfOk result (λ above. (x : T) → member T.cmp above x ≡ (member T.cmp self.old
+            ///     x && is_le (T.cmp at.now x)))
+            /// ensures below: OnOk result ((x : T) → member T.cmp self.new x ≡ (member T.cmp self.old x &&
+            ///     not (is_le (T.cmp at.now x))))
+            /// ensures unchanged: OnErr result (self.new ≡ self.old)
+            /// ```
+            pub fn split_off(&mut self, at: &T) -> Result<Self, AllocError> {
+                let above = self.members_from(at)?;
+                self.remove_from(at.entry_clone()?..)?;
+                Ok(above)
+            }
+
+            // The set of the members at and above an element.
+            fn members_from(&self, at: &T) -> Result<Self, AllocError> {
+                let mut from = Vec::new(self.list.allocator());
+                from.push(at.entry_clone()?)?;
+                Ok(ChunkedRangeSet {
+                    list: merged_apart(&self.list, from.as_slice(), &IntersectionOp)?,
+                })
+            }
+        }
+    }
+
     pub(crate) mod making {
         // From crates/range_chunks/src/set/making.rt.
         //! Sets made from views and other sets, and moved into a set of one list.
@@ -1545,6 +1744,109 @@ pub(crate) mod set {
             fn add_from(&mut self, start: &T) -> Result<(), AllocError> {
                 let start = start.entry_clone()?;
                 self.insert_from(start..)
+            }
+        }
+    }
+
+    pub(crate) mod many_sets {
+        // From crates/range_chunks/src/set/many_sets.rt.
+        //! The union and the intersection of many views, by halves: each is copied once, and then
+        //! the sets of one half take in those of the other.
+
+        use crate::generated::range_chunks::set::ChunkedRangeSet;
+        use crate::generated::range_collections::{
+            DiffOp, EntryClone, IntersectionOp, MergeOperation, RangeSetEntry, RangeSetRef, UnionOp,
+        };
+        use crate::support::{AllocError, Global};
+        use core::ops::Not;
+
+        impl<T: EntryClone> ChunkedRangeSet<T> {
+            /// The union of many sets: the elements that are members of at least one.
+            ///
+            /// It copies each boundary once, and then goes over those of both halves as
+            /// `union_with` does.
+            ///
+            /// # Contract
+            ///
+            /// ```text
+            /// ensures IfOk result (λ set. (x : T) → (member T.cmp set x ≡ true) ↔ Any (λ part. member
+            ///     T.cmp part.boundaries.now x ≡ true) sets.now)
+            /// ```
+            pub fn union_all(alloc: Global, sets: &[RangeSetRef<T>]) -> Result<Self, AllocError> {
+                if sets.is_empty() {
+                    return Ok(ChunkedRangeSet::new(alloc));
+                }
+                merged_all(alloc, sets, &UnionOp)
+            }
+        }
+
+        impl<T: RangeSetEntry + EntryClone> ChunkedRangeSet<T> {
+            /// The intersection of many sets: the elements that are members of each. Of no sets it
+            /// has every value.
+            ///
+            /// It copies each boundary once, and then goes over those of both halves as
+            /// `intersection_with` does.
+            ///
+            /// # Contract
+            ///
+            /// ```text
+            /// ensures members: 0 < length sets.now → IfOk result (λ set. (x : T) → member T.cmp set x ≡
+            ///     is_in_each T.cmp (λ set. set.boundaries.now) sets.now x)
+            /// ensures values: IfOk result (λ set. (x : T) → T.is_value x → member T.cmp set x ≡ is_in_each
+            ///     T.cmp (λ set. set.boundaries.now) sets.now x)
+            /// ```
+            pub fn intersection_all(
+                alloc: Global,
+                sets: &[RangeSetRef<T>],
+            ) -> Result<Self, AllocError> {
+                if sets.is_empty() {
+                    return everything(alloc);
+                }
+                merged_all(alloc, sets, &IntersectionOp)
+            }
+        }
+
+        // The set of every value.
+        fn everything<T: RangeSetEntry>(alloc: Global) -> Result<ChunkedRangeSet<T>, AllocError> {
+            let mut all = ChunkedRangeSet::new(alloc);
+            all.insert_from(T::min_value(alloc)?..)?;
+            Ok(all)
+        }
+
+        // The union or the intersection of the sets, of which there is one at least.
+        fn merged_all<T: EntryClone, O: MergeOperation>(
+            alloc: Global,
+            sets: &[RangeSetRef<T>],
+            op: &O,
+        ) -> Result<ChunkedRangeSet<T>, AllocError> {
+            match sets.len() {
+                1 => ChunkedRangeSet::from_view(alloc, sets[0]),
+                len => {
+                    let (front, back) = sets.split_at(len / 2);
+                    let set = merged_all(alloc, front, op)?;
+                    let that = merged_all(alloc, back, op)?;
+                    merged(set, that, op)
+                }
+            }
+        }
+
+        // The operation's result on two sets.
+        fn merged<T: EntryClone, O: MergeOperation>(
+            set: ChunkedRangeSet<T>,
+            that: ChunkedRangeSet<T>,
+            op: &O,
+        ) -> Result<ChunkedRangeSet<T>, AllocError> {
+            let mut both = set;
+            both.merge_set(that, op)?;
+            Ok(both)
+        }
+
+        impl<T: RangeSetEntry + EntryClone> Not for ChunkedRangeSet<T> {
+            type Output = Result<ChunkedRangeSet<T>, AllocError>;
+
+            /// The values that are no members. It puts clones of the boundaries.
+            fn not(self) -> Result<ChunkedRangeSet<T>, AllocError> {
+                merged(everything(self.list.allocator())?, self, &DiffOp)
             }
         }
     }
@@ -1827,6 +2129,66 @@ pub(crate) mod set {
         }
     }
 
+    pub(crate) mod reading {
+        // From crates/range_chunks/src/set/reading.rt.
+        //! A set read from a text of ranges.
+
+        use crate::generated::range_chunks::set::ChunkedRangeSet;
+        use crate::generated::range_collections::{
+            check_ranges, ParseError, RangeSetRange, WholeNumber,
+        };
+        use crate::support::{AllocError, Global};
+
+        impl<T: Ord + WholeNumber> ChunkedRangeSet<T> {
+            /// Reads ranges like `0..10, 20..`: in any order, with commas between them and blanks
+            /// around each. A text of blanks is the empty set.
+            ///
+            /// The errors are those of `RangeSet::parse`. It inserts one range after the other.
+            ///
+            /// # Contract
+            ///
+            /// ```text
+            /// ensures ok: IfOk result (λ set. is_ranges T.number text.now ≡ true)
+            /// ensures members: IfOk result (λ set. (x : T) → (member T.cmp set x ≡ true) ↔ Any (λ range.
+            ///     IsInRange T.cmp range x) (ranges_in T.number text.now))
+            /// ensures malformed: IfErr result (λ error. error ≢ OutOfMemory → is_ranges T.number text.now
+            ///     ≡ false)
+            /// ensures fault: IfErr result (λ error. error ≢ OutOfMemory → IsFaultIn text.now error)
+            /// ensures out_of_memory: IfErr result (λ error. error ≡ OutOfMemory → is_ranges T.number
+            ///     text.now ≡ true)
+            /// ```
+            pub fn parse(alloc: Global, text: &str) -> Result<Self, ParseError> {
+                check_ranges::<T>(text)?;
+                Ok(read(alloc, text)?)
+            }
+        }
+
+        // The set of the ranges that stand between the commas of a text.
+        fn read<T: Ord + WholeNumber>(
+            alloc: Global,
+            text: &str,
+        ) -> Result<ChunkedRangeSet<T>, AllocError> {
+            let mut set = ChunkedRangeSet::new(alloc);
+            for part in text.split(',') {
+                if let Some(range) = RangeSetRange::parse(part) {
+                    put(&mut set, range)?;
+                }
+            }
+            Ok(set)
+        }
+
+        // Adds the elements of the range.
+        fn put<T: Ord>(
+            set: &mut ChunkedRangeSet<T>,
+            range: RangeSetRange<T>,
+        ) -> Result<(), AllocError> {
+            match range {
+                RangeSetRange::Range(range) => set.insert(range),
+                RangeSetRange::RangeFrom(range) => set.insert_from(range),
+            }
+        }
+    }
+
     pub(crate) mod relations {
         // From crates/range_chunks/src/set/relations.rt.
         //! Questions about this set and another one, a view or a set in chunks.
@@ -1987,8 +2349,9 @@ pub(crate) mod set {
 
     pub(crate) mod taking {
         // From crates/range_chunks/src/set/taking.rt.
-        //! Whole ranges taken out of a set at its ends, which takes no memory.
+        //! Whole ranges taken out of a set, which takes no memory.
 
+        use crate::generated::range_chunks::retaining::{retain_ranges, RangeFilter};
         use crate::generated::range_chunks::set::ChunkedRangeSet;
         use crate::generated::range_collections::changes::{take_first_range, take_last_range};
         use crate::generated::range_collections::RangeSetRange;
@@ -2019,6 +2382,59 @@ pub(crate) mod set {
             pub fn pop_last(&mut self) -> Option<RangeSetRange<T>> {
                 take_last_range(&mut self.list)
             }
+
+            /// Keeps the ranges that the filter keeps, and removes the others. The filter is asked
+            /// once for each range, from the lowest on. It takes no memory and copies nothing.
+            ///
+            /// # Contract
+            ///
+            /// ```text
+            /// ensures ranges_of self.new ≡ filter (F.is_kept by.now) (ranges_of self.old)
+            /// ```
+            pub fn retain<F: RangeFilter<T>>(&mut self, by: &F) {
+                retain_ranges(&mut self.list, by);
+            }
+        }
+    }
+
+    pub(crate) mod values {
+        // From crates/range_chunks/src/set/values.rt.
+        //! The set of single values, which stand in a row.
+
+        use crate::generated::range_chunks::set::ChunkedRangeSet;
+        use crate::generated::range_collections::FromPlace;
+        use crate::support::{AllocError, Global};
+
+        impl<T: FromPlace> ChunkedRangeSet<T> {
+            /// The set of these values, which may come in any order and more than once. It inserts
+            /// one after the other.
+            ///
+            /// # Contract
+            ///
+            /// ```text
+            /// ensures IfOk result (λ set. (x : T) → T.is_value x → (member T.cmp set x ≡ true) ↔ Any (λ
+            ///     value. T.cmp value x ≡ Equal) values.now)
+            /// ```
+            pub fn from_values(alloc: Global, values: &[T]) -> Result<Self, AllocError> {
+                let mut set = ChunkedRangeSet::new(alloc);
+                for value in values {
+                    set.put_value(*value)?;
+                }
+                Ok(set)
+            }
+
+            // Adds one value.
+            fn put_value(&mut self, value: T) -> Result<(), AllocError> {
+                match next_value(&value) {
+                    Some(end) => self.insert(value..end),
+                    None => self.insert_from(value..),
+                }
+            }
+        }
+
+        // The least value above this one, if there is one.
+        fn next_value<T: FromPlace>(value: &T) -> Option<T> {
+            T::from_place(value.place().checked_add(1)?)
         }
     }
 }

@@ -3,10 +3,11 @@
 //! Maps from ranges to values: strictly sorted keys, and for each the value that holds from it on,
 //! up to the next one, or none.
 
-pub use filter::MapFilter;
+pub use filter::{MapFilter, RangeFilter};
 pub use gaps::Gaps;
 pub use insert_error::InsertError;
 pub use iter::Iter;
+pub use keys::{Keys, Values};
 pub use map::{RangeMap, Stretch};
 pub use operation::MapOperation;
 pub use update::MapUpdate;
@@ -153,7 +154,10 @@ pub(crate) mod borrowed_steps {
 
 pub(crate) mod filter {
     // From crates/range_map/src/filter.rt.
-    //! Which values of a map stay: the trait that a caller of `retain` implements.
+    //! Which values of a map stay: the traits that a caller of `retain` or `retain_ranges`
+    //! implements.
+
+    use crate::generated::range_collections::RangeSetRange;
 
     /// Which values `retain` keeps.
     pub trait MapFilter<V> {
@@ -165,6 +169,28 @@ pub(crate) mod filter {
         /// ensures result ≡ is_kept self.now value.now
         /// ```
         fn keeps(&self, value: &V) -> bool;
+    }
+
+    /// Which ranges with their values `retain_ranges` keeps.
+    pub trait RangeFilter<K, V> {
+        /// Whether this range stays with its value.
+        ///
+        /// # Contract
+        ///
+        /// ```text
+        /// ensures result ≡ is_kept self.now (range_now range.entry, value.now)
+        /// ```
+        fn keeps(&self, range: RangeSetRange<&K>, value: &V) -> bool;
+    }
+
+    /// Keeps each range whose value another filter keeps.
+    pub struct ByValue<'a, F>(pub &'a F);
+
+    impl<K, V, F: MapFilter<V>> RangeFilter<K, V> for ByValue<'_, F> {
+        #[inline(always)]
+        fn keeps(&self, _range: RangeSetRange<&K>, value: &V) -> bool {
+            self.0.keeps(value)
+        }
     }
 }
 
@@ -766,9 +792,15 @@ pub(crate) mod iter {
         None
     }
 
-    // From the start up to the end, if there is one.
+    /// From the start up to the end, if there is one.
+    ///
+    /// # Contract
+    ///
+    /// ```text
+    /// ensures range_now result ≡ range_until start.now (option_copied end.entry)
+    /// ```
     #[inline(always)]
-    fn range_until<'a, K>(start: &'a K, end: Option<&'a K>) -> RangeSetRange<&'a K> {
+    pub fn range_until<'a, K>(start: &'a K, end: Option<&'a K>) -> RangeSetRange<&'a K> {
         match end {
             Some(end) => RangeSetRange::Range(Range { start, end }),
             None => RangeSetRange::RangeFrom(RangeFrom { start }),
@@ -793,6 +825,81 @@ pub(crate) mod iter {
             None => end,
         }
     }
+}
+
+pub(crate) mod keys {
+    // From crates/range_map/src/keys.rt.
+    //! The ranges of a map without their values, and the values without their ranges.
+
+    use crate::generated::range_collections::RangeSetRange;
+    use crate::generated::range_map::iter::Iter;
+    use core::iter::FusedIterator;
+
+    /// The ranges that are still unread. A clause reads it as the list of these.
+    pub struct Keys<'a, K, V> {
+        entries: Iter<'a, K, V>,
+    }
+
+    impl<'a, K, V> Keys<'a, K, V> {
+        // The ranges of these entries.
+        #[inline(always)]
+        pub(crate) fn new(entries: Iter<'a, K, V>) -> Self {
+            Keys { entries }
+        }
+    }
+
+    impl<'a, K, V> Iterator for Keys<'a, K, V> {
+        type Item = RangeSetRange<&'a K>;
+
+        #[inline]
+        fn next(&mut self) -> Option<RangeSetRange<&'a K>> {
+            let (range, _) = self.entries.next()?;
+            Some(range)
+        }
+    }
+
+    impl<'a, K, V> DoubleEndedIterator for Keys<'a, K, V> {
+        #[inline]
+        fn next_back(&mut self) -> Option<RangeSetRange<&'a K>> {
+            let (range, _) = self.entries.next_back()?;
+            Some(range)
+        }
+    }
+
+    impl<'a, K, V> FusedIterator for Keys<'a, K, V> {}
+
+    /// The values that are still unread. A clause reads it as the list of these.
+    pub struct Values<'a, K, V> {
+        entries: Iter<'a, K, V>,
+    }
+
+    impl<'a, K, V> Values<'a, K, V> {
+        // The values of these entries.
+        #[inline(always)]
+        pub(crate) fn new(entries: Iter<'a, K, V>) -> Self {
+            Values { entries }
+        }
+    }
+
+    impl<'a, K, V> Iterator for Values<'a, K, V> {
+        type Item = &'a V;
+
+        #[inline]
+        fn next(&mut self) -> Option<&'a V> {
+            let (_, value) = self.entries.next()?;
+            Some(value)
+        }
+    }
+
+    impl<'a, K, V> DoubleEndedIterator for Values<'a, K, V> {
+        #[inline]
+        fn next_back(&mut self) -> Option<&'a V> {
+            let (_, value) = self.entries.next_back()?;
+            Some(value)
+        }
+    }
+
+    impl<'a, K, V> FusedIterator for Values<'a, K, V> {}
 }
 
 pub(crate) mod map {
@@ -1620,10 +1727,11 @@ pub(crate) mod map {
         use crate::generated::range_collections::{Comparisons, RangeSetRange};
         use crate::generated::range_map::gaps::Gaps;
         use crate::generated::range_map::iter::Iter;
+        use crate::generated::range_map::keys::{Keys, Values};
         use crate::generated::range_map::map::RangeMap;
         use crate::generated::range_map::places::{key_at, key_before, option_before, place_up_to};
         use crate::generated::range_map::within::{gaps_between, overlapping_steps};
-        use core::ops::Range;
+        use core::ops::{Range, RangeFrom};
 
         /// The longest range around a key whose keys all have one value, or all have none. It has
         /// no start if all lower keys are in it too, and no end if all higher ones are.
@@ -1645,6 +1753,78 @@ pub(crate) mod map {
             #[inline]
             pub fn iter(&self) -> Iter<'_, K, V> {
                 Iter::new(self.steps.items(), None)
+            }
+
+            /// The ranges that have a value, from the lowest on and from the highest down.
+            ///
+            /// ```text
+            /// bookings.keys()                  // 9..11, 11..14
+            /// ```
+            ///
+            /// # Contract
+            ///
+            /// ```text
+            /// ensures result ≡ ranges_in self.now
+            /// ```
+            pub fn keys(&self) -> Keys<'_, K, V> {
+                Keys::new(self.iter())
+            }
+
+            /// The values, from that of the lowest range on and from that of the highest down. A
+            /// value comes as often as it has ranges.
+            ///
+            /// # Contract
+            ///
+            /// ```text
+            /// ensures result ≡ values_in self.now
+            /// ```
+            pub fn values(&self) -> Values<'_, K, V> {
+                Values::new(self.iter())
+            }
+
+            /// The first range with its value, or `None` if the map is empty.
+            ///
+            /// # Contract
+            ///
+            /// ```text
+            /// ensures MatchOption result (entries self.now ≡ []) (λ entry. slice_get (entries self.now) 0
+            ///     ≡ Some (entry_now entry))
+            /// ```
+            #[inline]
+            pub fn first(&self) -> Option<(RangeSetRange<&K>, &V)> {
+                self.iter().next()
+            }
+
+            /// The last range with its value, or `None` if the map is empty.
+            ///
+            /// # Contract
+            ///
+            /// ```text
+            /// ensures MatchOption result (entries self.now ≡ []) (λ entry. last_or None (entries self.now)
+            ///     ≡ Some (entry_now entry))
+            /// ```
+            #[inline]
+            pub fn last(&self) -> Option<(RangeSetRange<&K>, &V)> {
+                self.iter().next_back()
+            }
+
+            /// The hull: from the start of the first range to the end of the last one, or without
+            /// an end if that has none. `None` if the map is empty.
+            ///
+            /// ```text
+            /// bookings.span()                  // 9..14
+            /// ```
+            ///
+            /// # Contract
+            ///
+            /// ```text
+            /// ensures MatchOption result (ranges_in self.now ≡ []) (λ range. IsSpan (ranges_in self.now)
+            ///     (range_now range))
+            /// ```
+            pub fn span(&self) -> Option<RangeSetRange<&K>> {
+                let (first, _) = self.first()?;
+                let (last, _) = self.last()?;
+                Some(hull(first, last))
             }
 
             /// The ranges that share a key with this one, whole, each with its value. It has none
@@ -1713,6 +1893,24 @@ pub(crate) mod map {
             #[inline]
             fn into_iter(self) -> Iter<'a, K, V> {
                 self.iter()
+            }
+        }
+
+        // From the start of a range up to the end of another, if that has one.
+        fn hull<'a, K>(
+            first: RangeSetRange<&'a K>,
+            last: RangeSetRange<&'a K>,
+        ) -> RangeSetRange<&'a K> {
+            let start = match first {
+                RangeSetRange::Range(range) => range.start,
+                RangeSetRange::RangeFrom(range) => range.start,
+            };
+            match last {
+                RangeSetRange::Range(range) => RangeSetRange::Range(Range {
+                    start,
+                    end: range.end,
+                }),
+                RangeSetRange::RangeFrom(_) => RangeSetRange::RangeFrom(RangeFrom { start }),
             }
         }
     }
@@ -1989,15 +2187,17 @@ pub(crate) mod map {
 
     pub(crate) mod updating {
         // From crates/range_map/src/map/updating.rt.
-        //! Values changed by what they were: those of a range by `update`, all of a map by
-        //! `retain`.
+        //! Values changed by what they were: those of a range by `update`, one by `modify`, all of
+        //! a map by
+        //! `retain` and `retain_ranges`.
 
         use crate::generated::range_collections::{
             has_elements, Comparisons, Copier, EntryClone, EntryCopier,
         };
-        use crate::generated::range_map::filter::MapFilter;
+        use crate::generated::range_map::filter::{ByValue, MapFilter, RangeFilter};
         use crate::generated::range_map::map::RangeMap;
-        use crate::generated::range_map::retaining::retain_values;
+        use crate::generated::range_map::modifying::modify_stretch;
+        use crate::generated::range_map::retaining::retain_entries;
         use crate::generated::range_map::update::MapUpdate;
         use crate::generated::range_map::updating::update_range;
         use crate::generated::range_map::value::MapValue;
@@ -2046,6 +2246,28 @@ pub(crate) mod map {
             ) -> Result<(), AllocError> {
                 update_range(&mut self.steps, &range.start, &None, op, &EntryCopier)
             }
+
+            /// Gives the longest range around `key` whose keys have its value what the update makes
+            /// of that. Returns `false`, and changes nothing, if `key` has none.
+            ///
+            /// ```text
+            /// bookings.modify(&10, &Moved)?    // 9..11 has what `Moved` makes of Guest::Ada
+            /// ```
+            ///
+            /// It copies the ends of the range. If memory runs out, the map is as it was.
+            ///
+            /// # Contract
+            ///
+            /// ```text
+            /// ensures values: IfOk result (λ found. found ≡ true → IsModified K.cmp V.eq (O.gives op.now)
+            ///     key.now self.old self.new)
+            /// ensures found: IfOk result (λ found. found ≡ is_some (value_at K.cmp self.old key.now))
+            /// ensures unchanged: OnErr result (self.new ≡ self.old)
+            /// ensures none: value_at K.cmp self.old key.now ≡ None → (self.new ≡ self.old) × IsOk result
+            /// ```
+            pub fn modify<O: MapUpdate<V>>(&mut self, key: &K, op: &O) -> Result<bool, AllocError> {
+                modify_stretch(&mut self.steps, key, op, &EntryCopier)
+            }
         }
 
         impl<K: Ord, V: MapValue> RangeMap<K, V> {
@@ -2075,8 +2297,94 @@ pub(crate) mod map {
             ///     (value_at K.cmp self.old x))
             /// ```
             pub fn retain<F: MapFilter<V>>(&mut self, filter: &F) {
-                retain_values(&mut self.steps, filter);
+                retain_entries(&mut self.steps, &ByValue(filter));
             }
+
+            /// Takes away each value that the filter doesn't keep with its range, as `retain` does.
+            ///
+            /// ```text
+            /// bookings.retain_ranges(&Before(12)) // the filter is asked for 9..11, then for 11..14
+            /// ```
+            ///
+            /// # Contract
+            ///
+            /// ```text
+            /// ensures IsRetained K.cmp V.eq (F.is_kept filter.now) self.old self.new
+            /// ```
+            pub fn retain_ranges<F: RangeFilter<K, V>>(&mut self, filter: &F) {
+                retain_entries(&mut self.steps, filter);
+            }
+        }
+    }
+}
+
+pub(crate) mod modifying {
+    // From crates/range_map/src/modifying.rt.
+    //! The value of a key changed, and with it that of the longest range around the key that has
+    //! it.
+
+    use crate::generated::range_collections::{Comparisons, Copier};
+    use crate::generated::range_list::{Chunks, Place};
+    use crate::generated::range_map::places::{key_at, key_before, option_before, place_up_to};
+    use crate::generated::range_map::replacing::set_range;
+    use crate::generated::range_map::step::Step;
+    use crate::generated::range_map::update::MapUpdate;
+    use crate::generated::range_map::value::MapValue;
+    use crate::support::AllocError;
+
+    /// Gives the stretch around the key what the update makes of its value. Returns whether it has
+    /// one.
+    ///
+    /// # Contract
+    ///
+    /// ```text
+    /// requires canonical: IsCanonical K.cmp V.eq (steps_in steps.old)
+    /// requires copies: (x y : K) → C.alike x y → K.cmp x y ≡ Equal
+    /// ensures canonical: IsCanonical K.cmp V.eq (steps_in steps.new)
+    /// ensures found: IfOk result (λ found. found ≡ is_some (value_at K.cmp (steps_in steps.old)
+    ///     key.now))
+    /// ensures values: IfOk result (λ found. found ≡ true → IsModified K.cmp V.eq (O.gives op.now)
+    ///     key.now (steps_in steps.old) (steps_in steps.new))
+    /// ensures unchanged: OnErr result (steps_in steps.new ≡ steps_in steps.old)
+    /// ensures none: value_at K.cmp (steps_in steps.old) key.now ≡ None → (steps_in steps.new ≡
+    ///     steps_in steps.old) × IsOk result
+    /// ```
+    pub(crate) fn modify_stretch<K: Ord, V: MapValue, O: MapUpdate<V>, C: Copier<K>>(
+        steps: &mut Chunks<Step<K, V>, ()>,
+        key: &K,
+        op: &O,
+        copier: &C,
+    ) -> Result<bool, AllocError> {
+        let place = place_up_to(steps, key, &mut Comparisons::new());
+        let value = match option_before(steps, place) {
+            Some(value) => value,
+            _ => return Ok(false),
+        };
+        let option = op.apply(Some(value))?;
+        set_before(steps, place, option, copier)?;
+        Ok(true)
+    }
+
+    // Gives the keys from the one before a place up to the one at it, if there is one, an option.
+    fn set_before<K: Ord, V: MapValue, C: Copier<K>>(
+        steps: &mut Chunks<Step<K, V>, ()>,
+        place: Place,
+        option: Option<V>,
+        copier: &C,
+    ) -> Result<(), AllocError> {
+        let start = copier.copy(key_before(steps, place).unwrap())?;
+        let end = copied_key(key_at(steps, place), copier)?;
+        set_range(steps, start, end, option, &mut Comparisons::new())
+    }
+
+    // A copy of a key, if there is one.
+    fn copied_key<K: Ord, C: Copier<K>>(
+        key: Option<&K>,
+        copier: &C,
+    ) -> Result<Option<K>, AllocError> {
+        match key {
+            Some(key) => Ok(Some(copier.copy(key)?)),
+            None => Ok(None),
         }
     }
 }
@@ -2620,9 +2928,11 @@ pub(crate) mod retaining {
     // From crates/range_map/src/retaining.rt.
     //! Values taken away in place: what stays moves down, and steps with equal options become one.
 
+    use crate::generated::range_collections::RangeSetRange;
     use crate::generated::range_list::{Chunks, Place, FRONT};
-    use crate::generated::range_map::filter::MapFilter;
-    use crate::generated::range_map::places::holds_before;
+    use crate::generated::range_map::filter::RangeFilter;
+    use crate::generated::range_map::iter::range_until;
+    use crate::generated::range_map::places::{holds_before, key_at};
     use crate::generated::range_map::step::{Step, StepOption};
 
     /// Takes away each value that the filter doesn't keep.
@@ -2632,10 +2942,10 @@ pub(crate) mod retaining {
     /// ```text
     /// requires IsCanonical K.cmp V.eq (steps_in steps.old)
     /// ensures canonical: IsCanonical K.cmp V.eq (steps_in steps.new)
-    /// ensures values: (x : K) → AreAlike V.eq (value_at K.cmp (steps_in steps.new) x) (kept
-    ///     (F.is_kept filter.now) (value_at K.cmp (steps_in steps.old) x))
+    /// ensures values: IsRetained K.cmp V.eq (F.is_kept filter.now) (steps_in steps.old) (steps_in
+    ///     steps.new)
     /// ```
-    pub(crate) fn retain_values<K: Ord, V: Eq, F: MapFilter<V>>(
+    pub(crate) fn retain_entries<K: Ord, V: Eq, F: RangeFilter<K, V>>(
         steps: &mut Chunks<Step<K, V>, ()>,
         filter: &F,
     ) {
@@ -2657,7 +2967,7 @@ pub(crate) mod retaining {
 
     // Moves the step at a place down to the end of those that were kept, without its value if that
     // doesn't stay, and if its option then differs from the one before it. Returns the new end.
-    fn keep_step<K: Ord, V: Eq, F: MapFilter<V>>(
+    fn keep_step<K: Ord, V: Eq, F: RangeFilter<K, V>>(
         steps: &mut Chunks<Step<K, V>, ()>,
         end: Place,
         at: Place,
@@ -2672,7 +2982,7 @@ pub(crate) mod retaining {
     }
 
     // Takes away the value at a place, if the filter doesn't keep it.
-    fn drop_unkept<K, V, F: MapFilter<V>>(
+    fn drop_unkept<K, V, F: RangeFilter<K, V>>(
         steps: &mut Chunks<Step<K, V>, ()>,
         at: Place,
         filter: &F,
@@ -2683,17 +2993,28 @@ pub(crate) mod retaining {
     }
 
     // Whether the option at a place stays as it is.
-    fn stays<K, V, F: MapFilter<V>>(steps: &Chunks<Step<K, V>, ()>, at: Place, filter: &F) -> bool {
+    fn stays<K, V, F: RangeFilter<K, V>>(
+        steps: &Chunks<Step<K, V>, ()>,
+        at: Place,
+        filter: &F,
+    ) -> bool {
         match steps.item_at(at) {
-            Some(step) => is_kept(step.option.as_ref(), filter),
+            Some(step) => {
+                let range = range_until(&step.key, key_at(steps, steps.place_after(at)));
+                is_kept(range, step.option.as_ref(), filter)
+            }
             None => true,
         }
     }
 
-    // Whether an option stays as it is.
-    fn is_kept<V, F: MapFilter<V>>(option: Option<&V>, filter: &F) -> bool {
+    // Whether the option of a range stays as it is.
+    fn is_kept<K, V, F: RangeFilter<K, V>>(
+        range: RangeSetRange<&K>,
+        option: Option<&V>,
+        filter: &F,
+    ) -> bool {
         match option {
-            Some(value) => filter.keeps(value),
+            Some(value) => filter.keeps(range, value),
             None => true,
         }
     }
