@@ -35,9 +35,7 @@ it calls.
   `first_fit_aligned`, `insert` and `remove`, and those of `Chunks` that only call one other: what they call has one.
 - `b_at`, `Status::code` of `range_calc_answers`: `a_at` and `exit_code` have one.
 - The exports of `range_c` for i32, u32 and u64, which are written from i64's.
-- `keeps` of a `MapFilter` and a `RangeFilter`, which only callers write.
-- None yet: relations, lengths, fits and pops of a `ChunkedRangeSet`, fits of a `ChunkedSpace`, `take_first_range`,
-  `take_last_range`, and pops and `first_fit` of sets and views.
+- `keeps` of a `MapFilter` and of a `RangeFilter`, which only callers write.
 """
 
 import argparse
