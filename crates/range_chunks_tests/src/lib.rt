@@ -13,6 +13,8 @@ mod ends;
 #[cfg(test)]
 mod fitting;
 #[cfg(test)]
+mod joined;
+#[cfg(test)]
 mod made_up;
 #[cfg(test)]
 mod making;
