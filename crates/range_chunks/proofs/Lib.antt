@@ -11,3 +11,4 @@ pub mod Halves
 pub mod OneValue
 pub mod ReadInto
 pub mod Retained
+pub mod OneByOne

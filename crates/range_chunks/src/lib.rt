@@ -7,6 +7,7 @@ pub mod boundaries;
 mod counting;
 mod gap_bound;
 mod iter;
+mod members;
 mod merging;
 mod relating;
 mod retaining;
@@ -21,6 +22,7 @@ mod within;
 
 pub use any_set::AnySet;
 pub use iter::Iter;
+pub use members::Members;
 pub use retaining::RangeFilter;
 pub use set::ChunkedRangeSet;
 pub use space::ChunkedSpace;

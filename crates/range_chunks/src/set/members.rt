@@ -3,8 +3,9 @@ ghost use Rattle.std.specs.Prelude.{◌≡◌, ◌<◌, ◌≤◌, IfSome, IfNon
 ghost use Rattle.std.specs.Ordering.{is_le};
 ghost use Rattle.range_merge.specs.Boundaries.{member};
 ghost use Rattle.range_collections.specs.Covered.{members_below};
-ghost use Rattle.range_collections.specs.Members.{IsPrevious};
+ghost use Rattle.range_collections.specs.Members.{IsPrevious, members_of};
 
+use crate::members::Members;
 use crate::set::ChunkedRangeSet;
 use range_collections::questions::{prev_at, rank, select};
 use range_collections::{Countable, FromPlace};
@@ -57,5 +58,13 @@ impl<T: FromPlace> ChunkedRangeSet<T> {
         ensures none { IfNone result (members_below T.cmp T.value self.now T.count ≤ k) }
     {
         select(self.list.items(), k)
+    }
+    /// The members one by one, from the lowest on or from the highest down.
+    ///
+    /// A step is one search. It takes no memory.
+    pub fn members(&self) -> Members<'_, T>
+        ensures { result ≡ members_of T.cmp T.value self.now 0 T.count }
+    {
+        Members::new(self)
     }
 }
