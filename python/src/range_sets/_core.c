@@ -345,8 +345,8 @@ static bool read_question(Arguments *given, PyObject *const *args, Py_ssize_t n,
 
 /* The same of where a count of numbers fits, which chunks remember. */
 #define ASK_TO_FIT(type, name, ...) \
-    (given->chunked ? range_set_##type##_chunked_##name(&given->chunked->type, given->numbers[0], given->numbers[1], __VA_ARGS__) \
-                    : range_set_##type##_##name(LIST_AND_NUMBERS(type), __VA_ARGS__))
+    (given->chunked ? range_set_##type##_chunked_##name(&given->chunked->type, __VA_ARGS__) \
+                    : range_set_##type##_##name(SET(type, given->lists[0]), __VA_ARGS__))
 
 /* Each for a type of numbers, which `as_python` makes a number of Python's. */
 #define FOUND(type, name, ...) \
@@ -355,9 +355,9 @@ static bool read_question(Arguments *given, PyObject *const *args, Py_ssize_t n,
     FOUND(type, name, range_set_##type##_range range; \
           if (!ASK_OF(type, name, given->numbers[0], &range)) Py_RETURN_NONE; \
           return found_range_##type(range.start, &range);)
-#define FOUND_NUMBER(type, number, as_python, name) \
+#define FOUND_NUMBER(type, number, as_python, name, asked, ...) \
     FOUND(type, name, number found; \
-          return ASK_OF(type, name, given->numbers[0], &found) ? as_python(found) : Py_NewRef(Py_None);)
+          return asked(type, name, __VA_ARGS__, &found) ? as_python(found) : Py_NewRef(Py_None);)
 #define FINDS(type, number, as_python) \
     static PyObject *found_range_##type(number start, const range_set_##type##_range *last) \
     { \
@@ -368,26 +368,23 @@ static bool read_question(Arguments *given, PyObject *const *args, Py_ssize_t n,
     FOUND(type, rank, return PyLong_FromUnsignedLongLong(ASK_OF(type, rank, given->numbers[0]));) \
     FOUND_RANGE(type, range_at) \
     FOUND_RANGE(type, range_from) \
-    FOUND_NUMBER(type, number, as_python, next_member) \
-    FOUND_NUMBER(type, number, as_python, next_gap) \
-    FOUND_NUMBER(type, number, as_python, prev_member) \
-    FOUND_NUMBER(type, number, as_python, prev_gap) \
+    FOUND_NUMBER(type, number, as_python, next_member, ASK_OF, given->numbers[0]) \
+    FOUND_NUMBER(type, number, as_python, next_gap, ASK_OF, given->numbers[0]) \
+    FOUND_NUMBER(type, number, as_python, prev_member, ASK_OF, given->numbers[0]) \
+    FOUND_NUMBER(type, number, as_python, prev_gap, ASK_OF, given->numbers[0]) \
     FOUND(type, span, range_set_##type##_range first, last; \
           if (!ASK_OF(type, first, &first) || !ASK_OF(type, last, &last)) Py_RETURN_NONE; \
           return found_range_##type(first.start, &last);) \
     FOUND(type, split, range_set_##type below, from; \
           range_set_##type##_split(LIST_AND_NUMBER(type), &below, &from); \
           return Py_BuildValue("nn", (Py_ssize_t)below.len, (Py_ssize_t)(given->lists[0].len - from.len));) \
-    FOUND(type, first_fit, number first; \
-          return ASK_TO_FIT(type, first_fit, given->counts[0], &first) ? as_python(first) : Py_NewRef(Py_None);) \
-    FOUND(type, first_fit_aligned, number first; \
-          bool fits = ASK_TO_FIT(type, first_fit_aligned, given->counts[0], given->counts[1], &first); \
-          return fits ? as_python(first) : Py_NewRef(Py_None);) \
-    FOUND(type, first_run, number first; \
-          bool fits = ASK_OF(type, first_run, given->numbers[0], given->numbers[1], given->counts[0], &first); \
-          return fits ? as_python(first) : Py_NewRef(Py_None);) \
-    FOUND(type, select, number at; \
-          return ASK_OF(type, select, given->counts[0], &at) ? as_python(at) : Py_NewRef(Py_None);) \
+    FOUND_NUMBER(type, number, as_python, first_fit, ASK_TO_FIT, given->numbers[0], given->numbers[1], given->counts[0]) \
+    FOUND_NUMBER(type, number, as_python, first_fit_from, ASK_TO_FIT, given->numbers[0], given->counts[0]) \
+    FOUND_NUMBER(type, number, as_python, first_fit_aligned, ASK_TO_FIT, given->numbers[0], given->numbers[1], given->counts[0], given->counts[1]) \
+    FOUND_NUMBER(type, number, as_python, first_fit_aligned_from, ASK_TO_FIT, given->numbers[0], given->counts[0], given->counts[1]) \
+    FOUND_NUMBER(type, number, as_python, first_run, ASK_OF, given->numbers[0], given->numbers[1], given->counts[0]) \
+    FOUND_NUMBER(type, number, as_python, first_run_from, ASK_OF, given->numbers[0], given->counts[0]) \
+    FOUND_NUMBER(type, number, as_python, select, ASK_OF, given->counts[0]) \
     FOUND(type, covered, uint64_t count; \
           range_set_status status = check_sorted(given); \
           if (status != RANGE_SET_DONE) return raise_status(status, 0); \
@@ -419,8 +416,11 @@ FIND(split, 1, 0, false)
 FIND(rank, 1, 0, false)
 /* The chunks remember the gaps. */
 FIND(first_fit, 2, 1, true)
+FIND(first_fit_from, 1, 1, true)
 FIND(first_fit_aligned, 2, 2, true)
+FIND(first_fit_aligned_from, 1, 2, true)
 FIND(first_run, 2, 1, false)
+FIND(first_run_from, 1, 1, false)
 FIND(select, 0, 1, false)
 FIND(covered, 0, 0, false)
 
@@ -518,8 +518,9 @@ static PyMethodDef methods[] = {
     METHOD(union), METHOD(intersection), METHOD(difference), METHOD(symmetric_difference), METHOD(negation),
     METHOD_OF_ONE(from_boundaries), METHOD_OF_ONE(from_unsorted), METHOD_OF_ONE(from_ranges), METHOD(is_signed), METHOD(is_sorted),
     METHOD(is_empty), METHOD(contains), METHOD(contains_range), METHOD(is_disjoint), METHOD(intersects), METHOD(is_subset),
-    METHOD(equal), METHOD(range_at), METHOD(range_from), METHOD(next_member), METHOD(next_gap), METHOD(prev_member), METHOD(prev_gap), METHOD(split), METHOD(rank), METHOD(first_fit),
-    METHOD(first_fit_aligned), METHOD(first_run), METHOD(select), METHOD(covered), METHOD(span), METHOD(parse),
+    METHOD(equal), METHOD(range_at), METHOD(range_from), METHOD(next_member), METHOD(next_gap), METHOD(prev_member), METHOD(prev_gap),
+    METHOD(split), METHOD(rank), METHOD(first_fit), METHOD(first_fit_from), METHOD(first_fit_aligned), METHOD(first_fit_aligned_from),
+    METHOD(first_run), METHOD(first_run_from), METHOD(select), METHOD(covered), METHOD(span), METHOD(parse),
     METHOD_OF_ONE(print), METHOD_OF_ONE(pack), METHOD_OF_ONE(unpack), METHOD(over), METHOD(from_values), METHOD(places), METHOD(ranks),
     METHOD(contains_each), METHOD(range_list), METHOD(from_pairs), METHOD_OF_ONE(ends_of_pairs), METHOD(from_codes), METHOD(numbers_of_pairs), METHOD(depths), METHOD(ends_and_values), METHOD(moved),
     METHOD(at_least), METHOD(mirror), METHOD_OF_ONE(numbers_of_floats), METHOD_OF_ONE(lengths_of_floats), METHOD(number_of_time), METHOD(numbers_of_times),

@@ -5,6 +5,7 @@ from __future__ import annotations
 from . import _core
 from ._kind import NO_KIND, Kind
 from ._kinds import kind_of_first
+from ._numbers import most
 from ._ordered import first_in
 from ._questions import Questions
 from ._sources import range_of
@@ -101,7 +102,7 @@ class Fits(Questions[E]):
         >>> RangeSet([(0, 10), (12, 20)]).first_fit(3, 0)
         20
         """
-        return self._first(_core.first_fit, start, end, length)
+        return self._first(_core.first_fit, _core.first_fit_from, start, end, length)
 
     def first_fit_aligned(self, length: Any, align: Any, start: E | None = None, end: E | None = None) -> E | None:
         """The first multiple of `align` from `start` on where `length` elements before `end` are no members, or None if there is none.
@@ -112,7 +113,7 @@ class Fits(Questions[E]):
         >>> RangeSet([(0, 10), (12, 20)]).first_fit_aligned(3, 8, 0)
         24
         """
-        return self._first(_core.first_fit_aligned, start, end, length, align)
+        return self._first(_core.first_fit_aligned, _core.first_fit_aligned_from, start, end, length, align)
 
     def first_run(self, length: Any, start: E | None = None, end: E | None = None) -> E | None:
         """The first element from `start` on where `length` elements before `end` are all members, or None if there is none. For times
@@ -123,9 +124,9 @@ class Fits(Questions[E]):
         >>> RangeSet([(0, 10), (12, 30)]).first_run(12)
         12
         """
-        return self._first(_core.first_run, start, end, length)
+        return self._first(_core.first_run, _core.first_run_from, start, end, length)
 
-    def _first(self, call: Any, start: Any, end: Any, length: Any, align: Any = None) -> E | None:
+    def _first(self, call: Any, call_from: Any, start: Any, end: Any, length: Any, align: Any = None) -> E | None:
         asked, kind = self._seen
         if kind is NO_KIND:
             kind = kind_of_first((start, end)) or kind
@@ -143,16 +144,18 @@ class Fits(Questions[E]):
             return place  # type: ignore[no-any-return]
         if kind.is_plain:
             # The extension reads them.
-            first, before = kind.least if start is None else start, kind.most if end is None else end
+            first, before = kind.least if start is None else start, end
         else:
-            first, last = kind.checked(kind.start(start)), kind.end(end)
-            before, end = kind.most if last is None else kind.checked(last), last
-        given = (asked, first, before, count) if align is None else (asked, first, before, count, multiple)
-        found = None if count >= 2**64 else call(*given)
-        if found is None and end is None:
-            # Elements up to the greatest one, which no end is above: a run of them is one range without an end.
-            at = before - count + 1
-            if kind.start(start) <= at and at % multiple == 0:
-                rest = self._beside((kind.range_list(at, None), kind))[0].overlapping(at, None)
-                found = at if (len(rest) == 1 and rest[0] <= at if is_run else not rest) else None
+            first, before = kind.checked(kind.start(start)), kind.end(end)
+            if before is not None:
+                kind.checked(before)
+            elif kind.most < most(kind.unsigned):
+                before = kind.most + 1
+        counts = [count] if align is None else [count, multiple]
+        if count < 2**64:
+            found = call_from(asked, first, *counts) if before is None else call(asked, first, before, *counts)
+        else:
+            # No count that the extension takes is of all numbers.
+            is_whole = count == 2**64 and before is None and first == kind.least and first % multiple == 0
+            found = first if is_whole and not (~self if is_run else self) else None
         return None if found is None else kind.value(found)
