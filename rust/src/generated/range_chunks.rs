@@ -5,6 +5,7 @@
 
 pub use any_set::AnySet;
 pub use iter::Iter;
+pub use members::Members;
 pub use retaining::RangeFilter;
 pub use set::ChunkedRangeSet;
 pub use space::ChunkedSpace;
@@ -418,6 +419,92 @@ pub(crate) mod iter {
             }
         }
         those.take_first().is_none()
+    }
+}
+
+pub(crate) mod members {
+    // From crates/range_chunks/src/members.rt.
+    //! The members of a set in chunks one by one, from the lowest on and from the highest down, of
+    //! values that stand in a row.
+
+    use crate::generated::range_chunks::set::ChunkedRangeSet;
+    use crate::generated::range_collections::FromPlace;
+    use core::iter::FusedIterator;
+
+    /// The members of a set in chunks that are still unread, one by one. A clause reads it as their
+    /// list, from the lowest on.
+    pub struct Members<'a, T: FromPlace> {
+        set: &'a ChunkedRangeSet<T>,
+        // The places of the lowest of them and of the highest, if there is one.
+        ends: Option<(u128, u128)>,
+    }
+
+    impl<'a, T: FromPlace> Members<'a, T> {
+        // The members of the set.
+        pub(crate) fn new(set: &'a ChunkedRangeSet<T>) -> Self {
+            Members {
+                set,
+                ends: outer(set),
+            }
+        }
+    }
+
+    impl<'a, T: FromPlace> Iterator for Members<'a, T> {
+        type Item = T;
+
+        fn next(&mut self) -> Option<T> {
+            let (first, last) = self.ends?;
+            let lowest = T::from_place(first)?;
+            self.ends = above(self.set, first, last);
+            Some(lowest)
+        }
+    }
+
+    impl<'a, T: FromPlace> DoubleEndedIterator for Members<'a, T> {
+        fn next_back(&mut self) -> Option<T> {
+            let (first, last) = self.ends?;
+            let highest = T::from_place(last)?;
+            self.ends = below(self.set, first, last);
+            Some(highest)
+        }
+    }
+
+    impl<'a, T: FromPlace> FusedIterator for Members<'a, T> {}
+
+    // The places of the lowest member and of the highest, if there is one.
+    fn outer<T: FromPlace>(set: &ChunkedRangeSet<T>) -> Option<(u128, u128)> {
+        let least = T::from_place(0)?;
+        let lowest = set.next_member(&least)?;
+        let highest = set.prev_member(&T::greatest())?;
+        Some((lowest.place(), highest.place()))
+    }
+
+    // The places of the outer members without the lowest one.
+    fn above<T: FromPlace>(
+        set: &ChunkedRangeSet<T>,
+        first: u128,
+        last: u128,
+    ) -> Option<(u128, u128)> {
+        if first >= last {
+            return None;
+        }
+        let next = T::from_place(first + 1)?;
+        let lowest = set.next_member(&next)?;
+        Some((lowest.place(), last))
+    }
+
+    // The places of the outer members without the highest one.
+    fn below<T: FromPlace>(
+        set: &ChunkedRangeSet<T>,
+        first: u128,
+        last: u128,
+    ) -> Option<(u128, u128)> {
+        if first >= last {
+            return None;
+        }
+        let before = T::from_place(last - 1)?;
+        let highest = set.prev_member(&before)?;
+        Some((first, highest.place()))
     }
 }
 
@@ -1855,6 +1942,7 @@ pub(crate) mod set {
         // From crates/range_chunks/src/set/members.rt.
         //! The members of a set one by one, of values that stand in a row.
 
+        use crate::generated::range_chunks::members::Members;
         use crate::generated::range_chunks::set::ChunkedRangeSet;
         use crate::generated::range_collections::questions::{prev_at, rank, select};
         use crate::generated::range_collections::{Countable, FromPlace};
@@ -1923,6 +2011,18 @@ pub(crate) mod set {
             /// ```
             pub fn select(&self, k: u128) -> Option<T> {
                 select(self.list.items(), k)
+            }
+            /// The members one by one, from the lowest on or from the highest down.
+            ///
+            /// A step is one search. It takes no memory.
+            ///
+            /// # Contract
+            ///
+            /// ```text
+            /// ensures result ≡ members_of T.cmp T.value self.now 0 T.count
+            /// ```
+            pub fn members(&self) -> Members<'_, T> {
+                Members::new(self)
             }
         }
     }
