@@ -38,23 +38,24 @@ use std::net::{Ipv4Addr, Ipv6Addr};
 /// | `&(a..b)` | [`Clone`] | a clone of the range |
 ///
 /// An empty or a reversed range, as `5..=3`, has no values. It is implemented for these, and for
-/// nothing else.
+/// nothing else. Calls that ask for another trait take `RangeSetRange<T>`, made by `range.into()`.
 ///
 /// # Examples
 ///
-/// A function that takes any of them:
+/// A function that takes any of them, and returns how many ranges it finds there:
 ///
 /// ```
 /// use range_sets::{AnyRange, RangeSet2};
 ///
-/// fn block(busy: &mut RangeSet2<u8>, hours: impl AnyRange<u8>) -> &mut RangeSet2<u8> {
+/// fn block(busy: &mut RangeSet2<u8>, hours: impl AnyRange<u8> + Clone) -> usize {
+///     let found = busy.overlapping(hours.clone()).count();
 ///     busy.insert(hours);
-///     busy
+///     found
 /// }
 ///
-/// let mut busy = RangeSet2::empty();
-/// block(block(block(&mut busy, ..8), 12..=12), 18..);
-/// assert_eq!(busy.to_string(), "0..8, 12..13, 18..");
+/// let mut busy = RangeSet2::from(9..12);
+/// assert_eq!((block(&mut busy, ..8), block(&mut busy, 18..), block(&mut busy, 7..=9)), (0, 0, 2));
+/// assert_eq!(busy.to_string(), "0..12, 18..");
 /// ```
 #[cfg_attr(
     range_sets_messages,
@@ -64,7 +65,7 @@ use std::net::{Ipv4Addr, Ipv6Addr};
         note = "one value `x` is the range `x..=x`"
     )
 )]
-pub trait AnyRange<T>: Sealed + Into<RangeSetRange<T>> {}
+pub trait AnyRange<T>: Sealed + Into<RangeSetRange<T>> + Overlaps<T> {}
 
 /// Calls a macro with each kind of range between values, and what it asks of the element.
 macro_rules! each_range {

@@ -404,7 +404,7 @@ ended! {
 
 macro_rules! overlaps {
     ($($range:ty $(: $($bound:ident)+)?;)*) => {$(
-        impl<T: Ord $($(+ $bound)+)?> Overlaps<T> for $range {
+        impl<T $(: $($bound +)+)?> Overlaps<T> for $range {
             fn found<R>(self, find: impl FnOnce(RangeSetRange<&T>) -> R) -> R {
                 find(RangeSetRange::from(self).as_ref())
             }
