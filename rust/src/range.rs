@@ -121,7 +121,8 @@ impl<T> RangeSetRange<T> {
         }
     }
 
-    /// Returns the start.
+    /// Returns the start. Of a range between references, as a set's `first` returns, that is a
+    /// reference to one: [`copied`](Self::copied) makes a range of values.
     ///
     /// # Examples
     ///
@@ -159,7 +160,7 @@ impl<T> RangeSetRange<T> {
     }
 
     /// Returns how many values the range has, or `None` if it has no end. The ends are values or
-    /// references to values.
+    /// references to values. `RangeInclusive::try_from` makes a range with the greatest value.
     ///
     /// It is the [place](Countable::place) of the end less that of the start.
     ///
