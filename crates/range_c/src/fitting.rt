@@ -23,7 +23,10 @@ pub(crate) fn first_fit_count<T: Countable + Copy, R: ValueRange<T>>(
         (R.start within) (R.end within) count n) }
     ensures unchanged { result ≡ false → at.new ≡ at.old }
 {
-    put(RangeSetRef::new_unchecked(a).first_fit_count(within, count), at)
+    put(
+        RangeSetRef::new_unchecked(a).first_fit_count(within, count),
+        at,
+    )
 }
 
 // Whether there is a multiple of `align` from which on `count` numbers lie in the range and none is

@@ -505,7 +505,10 @@ pub extern "C" fn proved_range_set_u32_chunked_is_superset_list(
     ensures unchanged { set.new.set ≡ set.old.set }
 {
     let taken = set.take(alloc);
-    let answer = taken.set.as_set().is_superset(RangeSetRef::new_unchecked(b));
+    let answer = taken
+        .set
+        .as_set()
+        .is_superset(RangeSetRef::new_unchecked(b));
     set.put(taken);
     answer
 }
