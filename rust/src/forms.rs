@@ -58,6 +58,54 @@ macro_rules! no_errors {
     };
 }
 
+/// Writes an example of a call, with what it uses first. A line that ends in `?` may fail, which is
+/// an error in `fallible`. Others end in a comma: with `=>` they say what a set is as a text, and with
+/// `=` what `{:?}` makes of a map.
+macro_rules! example {
+    (ends $($example:tt)*) => {
+        example!(@ "range_sets", ";", "": $($example)*)
+    };
+    (fails $($example:tt)*) => {
+        example!(
+            @ "range_sets::fallible", "?;", "# Ok::<(), range_sets::fallible::AllocError>(())":
+            $($example)*
+        )
+    };
+    (
+        @ $at:literal, $ok:literal, $end:literal:
+        $of:literal $(, $used:literal)*; $($lines:tt)*
+    ) => {
+        concat!(
+            "# Examples\n\n```\nuse ", $at, "::", $of, ";\n", $("use ", $used, ";\n",)* "\n",
+            example!(@lines $ok $($lines)*), $end, "\n```"
+        )
+    };
+    (@lines $ok:literal $($part:literal)+ ? $($lines:tt)*) => {
+        concat!($($part,)+ $ok, "\n", example!(@lines $ok $($lines)*))
+    };
+    (@lines $ok:literal [$($part:tt)+] ? $($lines:tt)*) => {
+        concat!($($part)+, $ok, "\n", example!(@lines $ok $($lines)*))
+    };
+    (@lines $ok:literal $($part:literal)+, $($lines:tt)*) => {
+        concat!($($part,)+ "\n", example!(@lines $ok $($lines)*))
+    };
+    (@lines $ok:literal $set:literal => $text:literal, $($lines:tt)*) => {
+        concat!(
+            "assert_eq!(", $set, ".to_string(), ", stringify!($text), ");\n",
+            example!(@lines $ok $($lines)*)
+        )
+    };
+    (@lines $ok:literal $map:literal = $shown:literal, $($lines:tt)*) => {
+        concat!(
+            "assert_eq!(format!(\"{", $map, ":?}\"), ", stringify!($shown), ");\n",
+            example!(@lines $ok $($lines)*)
+        )
+    };
+    (@lines $ok:literal) => {
+        ""
+    };
+}
+
 /// Writes the documentation of operations in place with a view, of sets in one list and of those in
 /// chunks. Before `=>` stands the value from which on the view of an example has all, and behind it
 /// what `0..10` then is.

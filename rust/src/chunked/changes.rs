@@ -19,13 +19,9 @@ macro_rules! changes {
         impl<T: Ord> $form::ChunkedRangeSet<T> {
             /// Returns the empty set. It takes no memory.
             ///
-            /// # Examples
-            ///
-            /// ```
-            #[doc = concat!("use ", $at, "::ChunkedRangeSet;")]
-            ///
-            /// assert!(ChunkedRangeSet::<u64>::new().is_empty());
-            /// ```
+            #[doc = example!($form "ChunkedRangeSet";
+                "assert!(ChunkedRangeSet::<u64>::new().is_empty());",
+            )]
             #[must_use]
             pub fn new() -> Self {
                 Self::of_proved(proved::ChunkedRangeSet::new(Global))
@@ -35,15 +31,10 @@ macro_rules! changes {
             /// any order.
             ///
             #[doc = $errors!("`collect` does the same." or "If memory runs out.")]
-            /// # Examples
-            ///
-            /// ```
-            #[doc = concat!("use ", $at, "::ChunkedRangeSet;")]
-            ///
-            #[doc = concat!("let busy = ChunkedRangeSet::from_ranges([15..18, 11..12, 12..13])", $ok)]
-            /// assert_eq!(busy.to_string(), "11..13, 15..18");
-            #[doc = $end]
-            /// ```
+            #[doc = example!($form "ChunkedRangeSet";
+                "let busy = ChunkedRangeSet::from_ranges([15..18, 11..12, 12..13])"?
+                "busy" => "11..13, 15..18",
+            )]
             #[$must_use]
             pub fn from_ranges<R>(ranges: impl IntoIterator<Item = R>) -> $form::Returned<Self>
             where
@@ -58,15 +49,10 @@ macro_rules! changes {
             /// Returns the set of these values, which may come in any order and more than once.
             ///
             #[doc = $errors!("If memory runs out.")]
-            /// # Examples
-            ///
-            /// ```
-            #[doc = concat!("use ", $at, "::ChunkedRangeSet;")]
-            ///
-            #[doc = concat!("let set = ChunkedRangeSet::from_values([7u8, 3, 255, 4, 3])", $ok)]
-            /// assert_eq!(set.to_string(), "3..5, 7..8, 255..");
-            #[doc = $end]
-            /// ```
+            #[doc = example!($form "ChunkedRangeSet";
+                "let set = ChunkedRangeSet::from_values([7u8, 3, 255, 4, 3])"?
+                "set" => "3..5, 7..8, 255..",
+            )]
             #[$must_use]
             pub fn from_values(values: impl IntoIterator<Item = T>) -> $form::Returned<Self>
             where
@@ -79,17 +65,11 @@ macro_rules! changes {
             /// [`RangeSet::union_all`](crate::RangeSet::union_all) does.
             ///
             #[doc = $errors!("If memory runs out or a copy fails.")]
-            /// # Examples
-            ///
-            /// ```
-            #[doc = concat!("use ", $at, "::ChunkedRangeSet;")]
-            /// use range_sets::RangeSetRef;
-            ///
-            /// let sets = [&[9, 11][..], &[10, 12, 15, 18]].map(|set| RangeSetRef::new(set).unwrap());
-            #[doc = concat!("let busy: ChunkedRangeSet<u32> = ChunkedRangeSet::union_all(sets)", $ok)]
-            /// assert_eq!(busy.to_string(), "9..12, 15..18");
-            #[doc = $end]
-            /// ```
+            #[doc = example!($form "ChunkedRangeSet", "range_sets::RangeSetRef";
+                "let sets = [&[9, 11][..], &[10, 12, 15, 18]].map(|set| RangeSetRef::new(set).unwrap());",
+                "let busy: ChunkedRangeSet<u32> = ChunkedRangeSet::union_all(sets)"?
+                "busy" => "9..12, 15..18",
+            )]
             #[$must_use]
             pub fn union_all<S>(sets: impl IntoIterator<Item = S>) -> $form::Returned<Self>
             where
@@ -105,19 +85,11 @@ macro_rules! changes {
             /// set, as [`RangeSet::intersection_all`](crate::RangeSet::intersection_all) does.
             ///
             #[doc = $errors!("If memory runs out or a copy fails.")]
-            /// # Examples
-            ///
-            /// ```
-            #[doc = concat!("use ", $at, "::ChunkedRangeSet;")]
-            /// use range_sets::RangeSetRef;
-            ///
-            /// let sets = [&[9, 17][..], &[10, 12, 15, 18]].map(|set| RangeSetRef::new(set).unwrap());
-            #[doc = concat!(
-                "let free: ChunkedRangeSet<u32> = ChunkedRangeSet::intersection_all(sets)", $ok
+            #[doc = example!($form "ChunkedRangeSet", "range_sets::RangeSetRef";
+                "let sets = [&[9, 17][..], &[10, 12, 15, 18]].map(|set| RangeSetRef::new(set).unwrap());",
+                "let free: ChunkedRangeSet<u32> = ChunkedRangeSet::intersection_all(sets)"?
+                "free" => "10..12, 15..17",
             )]
-            /// assert_eq!(free.to_string(), "10..12, 15..17");
-            #[doc = $end]
-            /// ```
             #[$must_use]
             pub fn intersection_all<S>(sets: impl IntoIterator<Item = S>) -> $form::Returned<Self>
             where
@@ -136,18 +108,13 @@ macro_rules! changes {
             ///
             #[doc = $errors!("If memory runs out, which is asked for only if the set grows. The set is \
                 then as it was.")]
-            /// # Examples
-            ///
-            /// ```
-            #[doc = concat!("use ", $at, "::ChunkedRangeSet;")]
-            ///
-            /// let mut busy = ChunkedRangeSet::new();
-            #[doc = concat!("busy.insert(11..12)", $ok)]
-            #[doc = concat!("busy.insert(12..14)", $ok)]
-            #[doc = concat!("busy.insert(22..)", $ok)]
-            /// assert_eq!(busy.to_string(), "11..14, 22..");
-            #[doc = $end]
-            /// ```
+            #[doc = example!($form "ChunkedRangeSet";
+                "let mut busy = ChunkedRangeSet::new();",
+                "busy.insert(11..12)"?
+                "busy.insert(12..14)"?
+                "busy.insert(22..)"?
+                "busy" => "11..14, 22..",
+            )]
             #[inline]
             pub fn insert(&mut self, range: impl AnyRange<T>) -> $form::Returned<()> {
                 $form::returned::<T, _, _>(match range.into() {
@@ -162,17 +129,12 @@ macro_rules! changes {
             /// It takes memory only if it cuts a range in two, or ends one that had no end.
             ///
             #[doc = $errors!("If memory runs out. The set is then as it was.")]
-            /// # Examples
-            ///
-            /// ```
-            #[doc = concat!("use ", $at, "::ChunkedRangeSet;")]
-            ///
-            #[doc = concat!("let mut open = ChunkedRangeSet::from_ranges([9..17])", $ok)]
-            #[doc = concat!("open.remove(12..13)", $ok)]
-            #[doc = concat!("open.remove(16..)", $ok)]
-            /// assert_eq!(open.to_string(), "9..12, 13..16");
-            #[doc = $end]
-            /// ```
+            #[doc = example!($form "ChunkedRangeSet";
+                "let mut open = ChunkedRangeSet::from_ranges([9..17])"?
+                "open.remove(12..13)"?
+                "open.remove(16..)"?
+                "open" => "9..12, 13..16",
+            )]
             #[inline]
             pub fn remove(&mut self, range: impl AnyRange<T>) -> $form::Returned<()> {
                 $form::returned::<T, _, _>(match range.into() {
@@ -185,17 +147,12 @@ macro_rules! changes {
             /// of them wasn't a member.
             ///
             #[doc = $errors!("If memory runs out. The set is then as it was.")]
-            /// # Examples
-            ///
-            /// ```
-            #[doc = concat!("use ", $at, "::ChunkedRangeSet;")]
-            ///
-            #[doc = concat!("let mut seen = ChunkedRangeSet::from_ranges([0..10])", $ok)]
-            #[doc = concat!("let changed = seen.insert_changed(5..12)", $ok)]
-            #[doc = concat!("let again = seen.insert_changed(3..=11)", $ok)]
-            /// assert!(changed && !again);
-            #[doc = $end]
-            /// ```
+            #[doc = example!($form "ChunkedRangeSet";
+                "let mut seen = ChunkedRangeSet::from_ranges([0..10])"?
+                "let changed = seen.insert_changed(5..12)"?
+                "let again = seen.insert_changed(3..=11)"?
+                "assert!(changed && !again);",
+            )]
             pub fn insert_changed(&mut self, range: impl AnyRange<T>) -> $form::Returned<bool> {
                 $form::returned::<T, _, _>(match range.into() {
                     RangeSetRange::Range(range) => self.changed(|set| set.insert_changed(range)),
@@ -210,17 +167,12 @@ macro_rules! changes {
             /// one of them was a member.
             ///
             #[doc = $errors!("If memory runs out. The set is then as it was.")]
-            /// # Examples
-            ///
-            /// ```
-            #[doc = concat!("use ", $at, "::ChunkedRangeSet;")]
-            ///
-            #[doc = concat!("let mut free = ChunkedRangeSet::from_ranges([0..10])", $ok)]
-            #[doc = concat!("let changed = free.remove_changed(8..)", $ok)]
-            #[doc = concat!("let again = free.remove_changed(8..10)", $ok)]
-            /// assert!(changed && !again);
-            #[doc = $end]
-            /// ```
+            #[doc = example!($form "ChunkedRangeSet";
+                "let mut free = ChunkedRangeSet::from_ranges([0..10])"?
+                "let changed = free.remove_changed(8..)"?
+                "let again = free.remove_changed(8..10)"?
+                "assert!(changed && !again);",
+            )]
             pub fn remove_changed(&mut self, range: impl AnyRange<T>) -> $form::Returned<bool> {
                 $form::returned::<T, _, _>(match range.into() {
                     RangeSetRange::Range(range) => self.changed(|set| set.remove_changed(range)),
@@ -234,16 +186,11 @@ macro_rules! changes {
             /// Removes the first range and returns it, or `None` if the set is empty. It takes no
             /// memory.
             ///
-            /// # Examples
-            ///
-            /// ```
-            #[doc = concat!("use ", $at, "::ChunkedRangeSet;")]
-            ///
-            #[doc = concat!("let mut busy = ChunkedRangeSet::from_ranges([9..11, 15..18])", $ok)]
-            /// assert_eq!(busy.pop_first(), Some((9..11).into()));
-            /// assert_eq!(busy.to_string(), "15..18");
-            #[doc = $end]
-            /// ```
+            #[doc = example!($form "ChunkedRangeSet";
+                "let mut busy = ChunkedRangeSet::from_ranges([9..11, 15..18])"?
+                "assert_eq!(busy.pop_first(), Some((9..11).into()));",
+                "busy" => "15..18",
+            )]
             pub fn pop_first(&mut self) -> Option<RangeSetRange<T>> {
                 self.changed(|set| set.pop_first()).map(RangeSetRange::from_proved)
             }
@@ -251,32 +198,22 @@ macro_rules! changes {
             /// Removes the last range and returns it, or `None` if the set is empty. It takes no
             /// memory.
             ///
-            /// # Examples
-            ///
-            /// ```
-            #[doc = concat!("use ", $at, "::ChunkedRangeSet;")]
-            ///
-            #[doc = concat!("let mut busy = ChunkedRangeSet::from_ranges([9..11, 15..18])", $ok)]
-            /// assert_eq!(busy.pop_last(), Some((15..18).into()));
-            /// assert_eq!(busy.to_string(), "9..11");
-            #[doc = $end]
-            /// ```
+            #[doc = example!($form "ChunkedRangeSet";
+                "let mut busy = ChunkedRangeSet::from_ranges([9..11, 15..18])"?
+                "assert_eq!(busy.pop_last(), Some((15..18).into()));",
+                "busy" => "9..11",
+            )]
             pub fn pop_last(&mut self) -> Option<RangeSetRange<T>> {
                 self.changed(|set| set.pop_last()).map(RangeSetRange::from_proved)
             }
 
             /// Removes all values.
             ///
-            /// # Examples
-            ///
-            /// ```
-            #[doc = concat!("use ", $at, "::ChunkedRangeSet;")]
-            ///
-            #[doc = concat!("let mut open = ChunkedRangeSet::from_ranges([9..17])", $ok)]
-            /// open.clear();
-            /// assert!(open.is_empty());
-            #[doc = $end]
-            /// ```
+            #[doc = example!($form "ChunkedRangeSet";
+                "let mut open = ChunkedRangeSet::from_ranges([9..17])"?
+                "open.clear();",
+                "assert!(open.is_empty());",
+            )]
             pub fn clear(&mut self) {
                 self.changed(|set| set.clear());
             }

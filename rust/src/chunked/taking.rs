@@ -10,6 +10,7 @@ use crate::range_set::RangeSetRef;
 use core::cell::RefCell;
 use core::mem;
 
+#[rustfmt::skip]
 macro_rules! taking {
     (
         $form:ident, $Clone:ident, $must_use:meta, $errors:ident,
@@ -21,18 +22,11 @@ macro_rules! taking {
             ///
             /// If it panics, the set is empty.
             ///
-            /// # Examples
-            ///
-            /// ```
-            #[doc = concat!("use ", $at, "::ChunkedRangeSet;")]
-            ///
-            #[doc = concat!(
-                        "let mut free = ChunkedRangeSet::from_ranges([9..11, 12..15, 20..30])", $ok
-                    )]
-            /// free.retain(|range| range.len() != Some(3));
-            /// assert_eq!(free.to_string(), "9..11, 20..30");
-            #[doc = $end]
-            /// ```
+            #[doc = example!($form "ChunkedRangeSet";
+                "let mut free = ChunkedRangeSet::from_ranges([9..11, 12..15, 20..30])"?
+                "free.retain(|range| range.len() != Some(3));",
+                "free" => "9..11, 20..30",
+            )]
             pub fn retain(&mut self, keep: impl FnMut(RangeSetRange<&T>) -> bool) {
                 let keep = KeptIf(RefCell::new(keep));
                 let mut set = mem::take(self);

@@ -21,19 +21,14 @@ macro_rules! changes {
             ///
             #[doc = $errors!("If memory is refused, which is asked for only if there are more ranges \
                 after it, or a copy of a value. The map is then as it was.")]
-            /// # Examples
-            ///
-            /// ```
-            #[doc = concat!("use ", $at, "::RangeMap;")]
-            ///
-            /// let mut bookings = RangeMap::new();
-            #[doc = concat!(r#"bookings.insert(9..17, "Ada")"#, $ok)]
-            #[doc = concat!(r#"bookings.insert(12..=13, "Bob")"#, $ok)]
-            #[doc = concat!(r#"bookings.insert(20.., "Eve")"#, $ok)]
-            /// let ranges = r#"{9..12: "Ada", 12..14: "Bob", 14..17: "Ada", 20..: "Eve"}"#;
-            /// assert_eq!(format!("{bookings:?}"), ranges);
-            #[doc = $end]
-            /// ```
+            #[doc = example!($form "RangeMap";
+                "let mut bookings = RangeMap::new();",
+                r#"bookings.insert(9..17, "Ada")"#?
+                r#"bookings.insert(12..=13, "Bob")"#?
+                r#"bookings.insert(20.., "Eve")"#?
+                r##"let ranges = r#"{9..12: "Ada", 12..14: "Bob", 14..17: "Ada", 20..: "Eve"}"#;"##,
+                r#"assert_eq!(format!("{bookings:?}"), ranges);"#,
+            )]
             pub fn insert(&mut self, range: impl AnyRange<K>, value: V) -> $form::Returned<()> {
                 $form::returned::<K, _, _>(self.try_insert(range.into(), value))
             }
@@ -45,17 +40,12 @@ macro_rules! changes {
             /// which becomes two.
             ///
             #[doc = $errors!("If memory or a copy of a value is refused. The map is then as it was.")]
-            /// # Examples
-            ///
-            /// ```
-            #[doc = concat!("use ", $at, "::RangeMap;")]
-            ///
-            #[doc = concat!("let mut bookings = RangeMap::", $of_pairs, r#"([(9..17, "Ada")])"#, $ok)]
-            #[doc = concat!("bookings.remove(12..13)", $ok)]
-            #[doc = concat!("bookings.remove(16..)", $ok)]
-            /// assert_eq!(format!("{bookings:?}"), r#"{9..12: "Ada", 13..16: "Ada"}"#);
-            #[doc = $end]
-            /// ```
+            #[doc = example!($form "RangeMap";
+                "let mut bookings = RangeMap::" $of_pairs r#"([(9..17, "Ada")])"#?
+                "bookings.remove(12..13)"?
+                "bookings.remove(16..)"?
+                "bookings" = r#"{9..12: "Ada", 13..16: "Ada"}"#,
+            )]
             pub fn remove(&mut self, range: impl AnyRange<K>) -> $form::Returned<()> {
                 $form::returned::<K, _, _>(self.try_remove(range.into()))
             }

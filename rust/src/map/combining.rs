@@ -180,20 +180,12 @@ macro_rules! operations {
             /// at least one value.
             ///
             #[doc = $errors!("If memory or a copy of a key is refused, or `op` returns an error.")]
-            /// # Examples
-            ///
-            /// ```
-            #[doc = concat!("use ", $at, "::RangeMap;")]
-            ///
-            #[doc = concat!("let nights = RangeMap::", $of_pairs, "([(1..4, 1), (6..9, 2)])", $ok)]
-            #[doc = concat!("let more = RangeMap::", $of_pairs, "([(3..7, 1)])", $ok)]
-            #[doc = concat!(
-                "let sum = nights.combine(&more, |a, b| ",
-                $returned!("Some(a.unwrap_or(&0) + b.unwrap_or(&0))"), ")", $ok
+            #[doc = example!($form "RangeMap";
+                "let nights = RangeMap::" $of_pairs "([(1..4, 1), (6..9, 2)])"?
+                "let more = RangeMap::" $of_pairs "([(3..7, 1)])"?
+                ["let sum = nights.combine(&more, |a, b| ", $returned!("Some(a.unwrap_or(&0) + b.unwrap_or(&0))"), ")"]?
+                "sum" = "{1..3: 1, 3..4: 2, 4..6: 1, 6..7: 3, 7..9: 2}",
             )]
-            /// assert_eq!(format!("{sum:?}"), "{1..3: 1, 3..4: 2, 4..6: 1, 6..7: 3, 7..9: 2}");
-            #[doc = $end]
-            /// ```
             #[$must_use]
             pub fn combine<W: Eq, U: Eq>(
                 &self,
@@ -210,21 +202,14 @@ macro_rules! operations {
             /// It makes the steps of the range anew, and copies the value behind it.
             ///
             #[doc = $errors!("If memory, a copy or `op` fails. The map is then as it was.")]
-            /// # Examples
-            ///
-            /// ```
-            #[doc = concat!("use ", $at, "::RangeMap;")]
-            ///
-            #[doc = concat!("let mut depth = RangeMap::", $of_pairs, "([(0..5, 1)])", $ok)]
-            #[doc = concat!(
-                "depth.update(3..9, |count| ", $returned!("Some(count.unwrap_or(&0) + 1)"), ")", $ok
+            #[doc = example!($form "RangeMap";
+                "let mut depth = RangeMap::" $of_pairs "([(0..5, 1)])"?
+                ["depth.update(3..9, |count| ", $returned!("Some(count.unwrap_or(&0) + 1)"), ")"]?
+                "depth" = "{0..3: 1, 3..5: 2, 5..9: 1}",
+                "",
+                ["depth.update(8.., |_| ", $returned!("Some(7)"), ")"]?
+                "depth" = "{0..3: 1, 3..5: 2, 5..8: 1, 8..: 7}",
             )]
-            /// assert_eq!(format!("{depth:?}"), "{0..3: 1, 3..5: 2, 5..9: 1}");
-            ///
-            #[doc = concat!("depth.update(8.., |_| ", $returned!("Some(7)"), ")", $ok)]
-            /// assert_eq!(format!("{depth:?}"), "{0..3: 1, 3..5: 2, 5..8: 1, 8..: 7}");
-            #[doc = $end]
-            /// ```
             pub fn update(
                 &mut self,
                 range: impl AnyRange<K>,
@@ -237,17 +222,12 @@ macro_rules! operations {
             /// Returns the map with the values of both. Where both have one, this map's stays.
             ///
             #[doc = $errors!("If memory, or a copy of a key or of a value, is refused.")]
-            /// # Examples
-            ///
-            /// ```
-            #[doc = concat!("use ", $at, "::RangeMap;")]
-            ///
-            #[doc = concat!("let mine = RangeMap::", $of_pairs, "([(1..4, 'a')])", $ok)]
-            #[doc = concat!("let yours = RangeMap::", $of_pairs, "([(3..7, 'b')])", $ok)]
-            #[doc = concat!("let union = mine.union_with_left(&yours)", $ok)]
-            /// assert_eq!(format!("{union:?}"), "{1..4: 'a', 4..7: 'b'}");
-            #[doc = $end]
-            /// ```
+            #[doc = example!($form "RangeMap";
+                "let mine = RangeMap::" $of_pairs "([(1..4, 'a')])"?
+                "let yours = RangeMap::" $of_pairs "([(3..7, 'b')])"?
+                "let union = mine.union_with_left(&yours)"?
+                "union" = "{1..4: 'a', 4..7: 'b'}",
+            )]
             #[$must_use]
             pub fn union_with_left(&self, that: &Self) -> $form::Returned<Self> {
                 let union = self.try_copy().and_then(|mut map| {
@@ -261,17 +241,12 @@ macro_rules! operations {
             /// stays.
             ///
             #[doc = $errors!("If memory, or a copy of a key or of a value, is refused.")]
-            /// # Examples
-            ///
-            /// ```
-            #[doc = concat!("use ", $at, "::RangeMap;")]
-            ///
-            #[doc = concat!("let mine = RangeMap::", $of_pairs, "([(1..4, 'a')])", $ok)]
-            #[doc = concat!("let yours = RangeMap::", $of_pairs, "([(3..7, 'b')])", $ok)]
-            #[doc = concat!("let union = mine.union_with_right(&yours)", $ok)]
-            /// assert_eq!(format!("{union:?}"), "{1..3: 'a', 3..7: 'b'}");
-            #[doc = $end]
-            /// ```
+            #[doc = example!($form "RangeMap";
+                "let mine = RangeMap::" $of_pairs "([(1..4, 'a')])"?
+                "let yours = RangeMap::" $of_pairs "([(3..7, 'b')])"?
+                "let union = mine.union_with_right(&yours)"?
+                "union" = "{1..3: 'a', 3..7: 'b'}",
+            )]
             #[$must_use]
             pub fn union_with_right(&self, that: &Self) -> $form::Returned<Self> {
                 let union = self.try_copy().and_then(|mut map| {
@@ -287,17 +262,12 @@ macro_rules! operations {
             ///
             #[doc = $errors!("If memory, or a copy of a key or of a value, is refused. The map is then \
                 as it was.")]
-            /// # Examples
-            ///
-            /// ```
-            #[doc = concat!("use ", $at, "::RangeMap;")]
-            ///
-            #[doc = concat!("let mut mine = RangeMap::", $of_pairs, "([(1..4, 'a')])", $ok)]
-            #[doc = concat!("let yours = RangeMap::", $of_pairs, "([(3..7, 'b')])", $ok)]
-            #[doc = concat!("mine.insert_all(&yours)", $ok)]
-            /// assert_eq!(format!("{mine:?}"), "{1..3: 'a', 3..7: 'b'}");
-            #[doc = $end]
-            /// ```
+            #[doc = example!($form "RangeMap";
+                "let mut mine = RangeMap::" $of_pairs "([(1..4, 'a')])"?
+                "let yours = RangeMap::" $of_pairs "([(3..7, 'b')])"?
+                "mine.insert_all(&yours)"?
+                "mine" = "{1..3: 'a', 3..7: 'b'}",
+            )]
             pub fn insert_all(&mut self, that: &Self) -> $form::Returned<()> {
                 let put = self.try_put_all(that, &RightFirst, &$form::Copier);
                 $form::returned::<K, _, _>(put)
@@ -308,17 +278,12 @@ macro_rules! operations {
             ///
             #[doc = $errors!("If memory, or a copy of a key or of a value, is refused. The map is then \
                 as it was.")]
-            /// # Examples
-            ///
-            /// ```
-            #[doc = concat!("use ", $at, "::RangeMap;")]
-            ///
-            #[doc = concat!("let mut mine = RangeMap::", $of_pairs, "([(1..4, 'a')])", $ok)]
-            #[doc = concat!("let yours = RangeMap::", $of_pairs, "([(3..7, 'b')])", $ok)]
-            #[doc = concat!("mine.insert_where_free(&yours)", $ok)]
-            /// assert_eq!(format!("{mine:?}"), "{1..4: 'a', 4..7: 'b'}");
-            #[doc = $end]
-            /// ```
+            #[doc = example!($form "RangeMap";
+                "let mut mine = RangeMap::" $of_pairs "([(1..4, 'a')])"?
+                "let yours = RangeMap::" $of_pairs "([(3..7, 'b')])"?
+                "mine.insert_where_free(&yours)"?
+                "mine" = "{1..4: 'a', 4..7: 'b'}",
+            )]
             pub fn insert_where_free(&mut self, that: &Self) -> $form::Returned<()> {
                 let put = self.try_put_all(that, &LeftFirst, &$form::Copier);
                 $form::returned::<K, _, _>(put)
@@ -329,17 +294,12 @@ macro_rules! operations {
             ///
             #[doc = $errors!("If memory, or a copy of a key or of a value, is refused. The map is then \
                 as it was.")]
-            /// # Examples
-            ///
-            /// ```
-            #[doc = concat!("use ", $at, "::{RangeMap, RangeSet2};")]
-            ///
-            #[doc = concat!("let mut bookings = RangeMap::", $of_pairs, r#"([(9..14, "Ada")])"#, $ok)]
-            #[doc = concat!("let hours = RangeSet2::", $from, "(10..12)", $ok)]
-            #[doc = concat!("bookings.remove_all(&hours)", $ok)]
-            /// assert_eq!(format!("{bookings:?}"), r#"{9..10: "Ada", 12..14: "Ada"}"#);
-            #[doc = $end]
-            /// ```
+            #[doc = example!($form "{RangeMap, RangeSet2}";
+                "let mut bookings = RangeMap::" $of_pairs r#"([(9..14, "Ada")])"#?
+                "let hours = RangeSet2::" $from "(10..12)"?
+                "bookings.remove_all(&hours)"?
+                "bookings" = r#"{9..10: "Ada", 12..14: "Ada"}"#,
+            )]
             pub fn remove_all(&mut self, keys: impl AnyKeys<K>) -> $form::Returned<()> {
                 $form::returned::<K, _, _>(self.try_remove_all(keys, &$form::Copier))
             }
@@ -349,17 +309,12 @@ macro_rules! operations {
             ///
             #[doc = $errors!("If memory, or a copy of a key or of a value, is refused. The map is then \
                 as it was.")]
-            /// # Examples
-            ///
-            /// ```
-            #[doc = concat!("use ", $at, "::{RangeMap, RangeSet2};")]
-            ///
-            #[doc = concat!("let mut bookings = RangeMap::", $of_pairs, r#"([(9..14, "Ada")])"#, $ok)]
-            #[doc = concat!("let hours = RangeSet2::", $from, "(12..20)", $ok)]
-            #[doc = concat!("bookings.retain_all(&hours)", $ok)]
-            /// assert_eq!(format!("{bookings:?}"), r#"{12..14: "Ada"}"#);
-            #[doc = $end]
-            /// ```
+            #[doc = example!($form "{RangeMap, RangeSet2}";
+                "let mut bookings = RangeMap::" $of_pairs r#"([(9..14, "Ada")])"#?
+                "let hours = RangeSet2::" $from "(12..20)"?
+                "bookings.retain_all(&hours)"?
+                "bookings" = r#"{12..14: "Ada"}"#,
+            )]
             pub fn retain_all(&mut self, keys: impl AnyKeys<K>) -> $form::Returned<()> {
                 let kept = self.try_restrict(keys, &$form::Copier);
                 $form::returned::<K, _, _>(kept.map(|map| *self = map))
@@ -369,18 +324,13 @@ macro_rules! operations {
             /// kind](AnyKeys) alone.
             ///
             #[doc = $errors!("If memory, or a copy of a key or of a value, is refused.")]
-            /// # Examples
-            ///
-            /// ```
-            #[doc = concat!("use ", $at, "::{RangeMap, RangeSet2};")]
-            ///
-            #[doc = concat!("let bookings = RangeMap::", $of_pairs, r#"([(9..14, "Ada")])"#, $ok)]
-            #[doc = concat!("let hours = RangeSet2::", $from, "(12..20)", $ok)]
-            #[doc = concat!("let day = bookings.restrict(&hours)", $ok)]
-            #[doc = concat!("let part = bookings.restrict(12..)", $ok)]
-            /// assert_eq!((format!("{day:?}").as_str(), part), (r#"{12..14: "Ada"}"#, day));
-            #[doc = $end]
-            /// ```
+            #[doc = example!($form "{RangeMap, RangeSet2}";
+                "let bookings = RangeMap::" $of_pairs r#"([(9..14, "Ada")])"#?
+                "let hours = RangeSet2::" $from "(12..20)"?
+                "let day = bookings.restrict(&hours)"?
+                "let part = bookings.restrict(12..)"?
+                r##"assert_eq!((format!("{day:?}").as_str(), part), (r#"{12..14: "Ada"}"#, day));"##,
+            )]
             #[doc(alias = "part")]
             #[$must_use]
             pub fn restrict(&self, keys: impl AnyKeys<K>) -> $form::Returned<Self> {
@@ -391,17 +341,12 @@ macro_rules! operations {
             /// kind](AnyKeys).
             ///
             #[doc = $errors!("If memory, or a copy of a key or of a value, is refused.")]
-            /// # Examples
-            ///
-            /// ```
-            #[doc = concat!("use ", $at, "::{RangeMap, RangeSet2};")]
-            ///
-            #[doc = concat!("let bookings = RangeMap::", $of_pairs, r#"([(9..14, "Ada")])"#, $ok)]
-            #[doc = concat!("let hours = RangeSet2::", $from, "(10..12)", $ok)]
-            #[doc = concat!("let rest = bookings.without(&hours)", $ok)]
-            /// assert_eq!(format!("{rest:?}"), r#"{9..10: "Ada", 12..14: "Ada"}"#);
-            #[doc = $end]
-            /// ```
+            #[doc = example!($form "{RangeMap, RangeSet2}";
+                "let bookings = RangeMap::" $of_pairs r#"([(9..14, "Ada")])"#?
+                "let hours = RangeSet2::" $from "(10..12)"?
+                "let rest = bookings.without(&hours)"?
+                "rest" = r#"{9..10: "Ada", 12..14: "Ada"}"#,
+            )]
             #[$must_use]
             pub fn without(&self, keys: impl AnyKeys<K>) -> $form::Returned<Self> {
                 let rest = self.try_copy().and_then(|mut map| {
@@ -414,18 +359,11 @@ macro_rules! operations {
             /// Returns the set of the keys that have a value.
             ///
             #[doc = $errors!("If memory or a copy of a key is refused.")]
-            /// # Examples
-            ///
-            /// ```
-            #[doc = concat!("use ", $at, "::{RangeMap, RangeSet2};")]
-            ///
-            #[doc = concat!(
-                "let bookings = RangeMap::", $of_pairs, r#"([(9..11, "Ada"), (11..14, "Bob")])"#, $ok
+            #[doc = example!($form "{RangeMap, RangeSet2}";
+                "let bookings = RangeMap::" $of_pairs r#"([(9..11, "Ada"), (11..14, "Bob")])"#?
+                "let taken: RangeSet2<i32> = bookings.domain()"?
+                "taken" => "9..14",
             )]
-            #[doc = concat!("let taken: RangeSet2<i32> = bookings.domain()", $ok)]
-            /// assert_eq!(taken.to_string(), "9..14");
-            #[doc = $end]
-            /// ```
             #[$must_use]
             pub fn domain<A: Array<Item = K>>(&self) -> $form::Returned<$form::RangeSet<A>> {
                 let list = self.try_domain::<A::List>();
@@ -436,16 +374,11 @@ macro_rules! operations {
             /// each range, from the lowest on.
             ///
             #[doc = $errors!("If memory or a copy of a key is refused.")]
-            /// # Examples
-            ///
-            /// ```
-            #[doc = concat!("use ", $at, "::{RangeMap, RangeSet2};")]
-            ///
-            #[doc = concat!("let depth = RangeMap::depth([0..5, 3..9])", $ok)]
-            #[doc = concat!("let twice: RangeSet2<i32> = depth.domain_where(|n| *n > 1)", $ok)]
-            /// assert_eq!(twice.to_string(), "3..5");
-            #[doc = $end]
-            /// ```
+            #[doc = example!($form "{RangeMap, RangeSet2}";
+                "let depth = RangeMap::depth([0..5, 3..9])"?
+                "let twice: RangeSet2<i32> = depth.domain_where(|n| *n > 1)"?
+                "twice" => "3..5",
+            )]
             #[$must_use]
             pub fn domain_where<A: Array<Item = K>>(
                 &self,
@@ -459,18 +392,11 @@ macro_rules! operations {
             /// for each range, from the lowest on. Ranges that touch and get equal values become one.
             ///
             #[doc = $errors!("If memory or a copy of a key is refused, or `change` returns an error.")]
-            /// # Examples
-            ///
-            /// ```
-            #[doc = concat!("use ", $at, "::RangeMap;")]
-            ///
-            #[doc = concat!("let nights = RangeMap::", $of_pairs, "([(1..4, 1), (4..7, 2)])", $ok)]
-            #[doc = concat!(
-                "let many = nights.map_values(|count| ", $returned!("*count > 1"), ")", $ok
+            #[doc = example!($form "RangeMap";
+                "let nights = RangeMap::" $of_pairs "([(1..4, 1), (4..7, 2)])"?
+                ["let many = nights.map_values(|count| ", $returned!("*count > 1"), ")"]?
+                "many" = "{1..4: false, 4..7: true}",
             )]
-            /// assert_eq!(format!("{many:?}"), "{1..4: false, 4..7: true}");
-            #[doc = $end]
-            /// ```
             #[$must_use]
             pub fn map_values<W: Eq>(
                 &self,
@@ -485,18 +411,11 @@ macro_rules! operations {
             /// Returns the set of the keys that have this value.
             ///
             #[doc = $errors!("If memory, or a copy of a key or of the value, is refused.")]
-            /// # Examples
-            ///
-            /// ```
-            #[doc = concat!("use ", $at, "::{RangeMap, RangeSet2};")]
-            ///
-            #[doc = concat!(
-                "let bookings = RangeMap::", $of_pairs, r#"([(9..11, "Ada"), (11..14, "Bob")])"#, $ok
+            #[doc = example!($form "{RangeMap, RangeSet2}";
+                "let bookings = RangeMap::" $of_pairs r#"([(9..11, "Ada"), (11..14, "Bob")])"#?
+                r#"let bobs: RangeSet2<i32> = bookings.where_equal(&"Bob")"#?
+                "bobs" => "11..14",
             )]
-            #[doc = concat!(r#"let bobs: RangeSet2<i32> = bookings.where_equal(&"Bob")"#, $ok)]
-            /// assert_eq!(bobs.to_string(), "11..14");
-            #[doc = $end]
-            /// ```
             #[$must_use]
             pub fn where_equal<A>(&self, value: &V) -> $form::Returned<$form::RangeSet<A>>
             where
@@ -515,15 +434,10 @@ macro_rules! operations {
             /// It takes *O*(*n* log *n*) time, and memory for copies of all ends.
             ///
             #[doc = $errors!("If memory or a copy of a key is refused.")]
-            /// # Examples
-            ///
-            /// ```
-            #[doc = concat!("use ", $at, "::RangeMap;")]
-            ///
-            #[doc = concat!("let depth = RangeMap::depth([0..=4, 3..=8, 4..=5])", $ok)]
-            /// assert_eq!(format!("{depth:?}"), "{0..3: 1, 3..4: 2, 4..5: 3, 5..6: 2, 6..9: 1}");
-            #[doc = $end]
-            /// ```
+            #[doc = example!($form "RangeMap";
+                "let depth = RangeMap::depth([0..=4, 3..=8, 4..=5])"?
+                "depth" = "{0..3: 1, 3..4: 2, 4..5: 3, 5..6: 2, 6..9: 1}",
+            )]
             #[$must_use]
             pub fn depth<R>(ranges: impl IntoIterator<Item = R>) -> $form::Returned<Self>
             where

@@ -175,19 +175,12 @@ macro_rules! composed {
             ///
             #[doc = $errors!("If a copy of a key or of the value is refused. The map is then as it \
                 was.")]
-            /// # Examples
-            ///
-            /// ```
-            #[doc = concat!("use ", $at, "::RangeMap;")]
-            ///
-            #[doc = concat!(
-                "let mut bookings = RangeMap::", $of_pairs, "([(9..11, 'a'), (11..14, 'b')])", $ok
+            #[doc = example!($form "RangeMap";
+                "let mut bookings = RangeMap::" $of_pairs "([(9..11, 'a'), (11..14, 'b')])"?
+                "let first = bookings.pop_first()"?
+                "assert_eq!(first, Some(((9..11).into(), 'a')));",
+                "assert_eq!(bookings.len(), 1);",
             )]
-            #[doc = concat!("let first = bookings.pop_first()", $ok)]
-            /// assert_eq!(first, Some(((9..11).into(), 'a')));
-            /// assert_eq!(bookings.len(), 1);
-            #[doc = $end]
-            /// ```
             pub fn pop_first(&mut self) -> $form::Returned<Option<(RangeSetRange<K>, V)>> {
                 $form::returned::<K, _, _>(self.try_pop(Self::first, &$form::Copier))
             }
@@ -197,19 +190,12 @@ macro_rules! composed {
             ///
             #[doc = $errors!("If a copy of a key or of the value is refused. The map is then as it \
                 was.")]
-            /// # Examples
-            ///
-            /// ```
-            #[doc = concat!("use ", $at, "::RangeMap;")]
-            ///
-            #[doc = concat!(
-                "let mut bookings = RangeMap::", $of_pairs, "([(9..11, 'a'), (11..14, 'b')])", $ok
+            #[doc = example!($form "RangeMap";
+                "let mut bookings = RangeMap::" $of_pairs "([(9..11, 'a'), (11..14, 'b')])"?
+                "let last = bookings.pop_last()"?
+                "assert_eq!(last, Some(((11..14).into(), 'b')));",
+                "assert_eq!(bookings.len(), 1);",
             )]
-            #[doc = concat!("let last = bookings.pop_last()", $ok)]
-            /// assert_eq!(last, Some(((11..14).into(), 'b')));
-            /// assert_eq!(bookings.len(), 1);
-            #[doc = $end]
-            /// ```
             pub fn pop_last(&mut self) -> $form::Returned<Option<(RangeSetRange<K>, V)>> {
                 $form::returned::<K, _, _>(self.try_pop(Self::last, &$form::Copier))
             }
@@ -222,19 +208,12 @@ macro_rules! composed {
             ///
             #[doc = $errors!("If memory or a copy is refused, or `change` returns an error. The map is \
                 then as it was.")]
-            /// # Examples
-            ///
-            /// ```
-            #[doc = concat!("use ", $at, "::RangeMap;")]
-            ///
-            #[doc = concat!("let mut nights = RangeMap::", $of_pairs, "([(1..4, 1), (4..7, 2)])", $ok)]
-            #[doc = concat!(
-                "let changed = nights.modify(&2, |count| ", $returned!("*count += 1"), ")", $ok
+            #[doc = example!($form "RangeMap";
+                "let mut nights = RangeMap::" $of_pairs "([(1..4, 1), (4..7, 2)])"?
+                ["let changed = nights.modify(&2, |count| ", $returned!("*count += 1"), ")"]?
+                "assert!(changed);",
+                "nights" = "{1..7: 2}",
             )]
-            /// assert!(changed);
-            /// assert_eq!(format!("{nights:?}"), "{1..7: 2}");
-            #[doc = $end]
-            /// ```
             pub fn modify(
                 &mut self,
                 key: &K,
@@ -249,16 +228,11 @@ macro_rules! composed {
             ///
             #[doc = $errors!("If memory, or a copy of a key or of a value, is refused. The map is then \
                 as it was.")]
-            /// # Examples
-            ///
-            /// ```
-            #[doc = concat!("use ", $at, "::RangeMap;")]
-            ///
-            #[doc = concat!("let mut bookings = RangeMap::", $of_pairs, "([(9..14, 'a')])", $ok)]
-            #[doc = concat!("let late = bookings.split_off(&12)", $ok)]
-            /// assert_eq!(format!("{bookings:?} {late:?}"), "{9..12: 'a'} {12..14: 'a'}");
-            #[doc = $end]
-            /// ```
+            #[doc = example!($form "RangeMap";
+                "let mut bookings = RangeMap::" $of_pairs "([(9..14, 'a')])"?
+                "let late = bookings.split_off(&12)"?
+                r#"assert_eq!(format!("{bookings:?} {late:?}"), "{9..12: 'a'} {12..14: 'a'}");"#,
+            )]
             #[must_use = "`remove` takes the values away and returns none"]
             pub fn split_off(&mut self, at: &K) -> $form::Returned<Self> {
                 $form::returned::<K, _, _>(self.try_split_off(at, &$form::Copier))

@@ -27,16 +27,11 @@ macro_rules! constructors {
             /// collected. A line that makes a set of them names it: `let set: RangeSet<[i32; 4]> =
             /// ..`, or `RangeSet2`.
             ///
-            /// # Examples
-            ///
-            /// ```
-            #[doc = concat!("use ", $at, "::RangeSet;")]
-            /// use smallvec::smallvec;
-            ///
-            /// let set: RangeSet<[i32; 4]> = RangeSet::new(smallvec![0, 10, 20]).unwrap();
-            /// assert!(set.contains(&25));
-            /// assert!(RangeSet::<[i32; 4]>::new(smallvec![10, 0]).is_none());
-            /// ```
+            #[doc = example!($form "RangeSet", "smallvec::smallvec";
+                "let set: RangeSet<[i32; 4]> = RangeSet::new(smallvec![0, 10, 20]).unwrap();",
+                "assert!(set.contains(&25));",
+                "assert!(RangeSet::<[i32; 4]>::new(smallvec![10, 0]).is_none());",
+            )]
             #[must_use]
             pub fn new(boundaries: SmallVec<A>) -> Option<Self>
             where
@@ -51,15 +46,10 @@ macro_rules! constructors {
             ///
             /// If they aren't, calls give wrong results or panic. Nothing is undefined.
             ///
-            /// # Examples
-            ///
-            /// ```
-            #[doc = concat!("use ", $at, "::RangeSet2;")]
-            /// use smallvec::smallvec;
-            ///
-            /// let set: RangeSet2<u8> = RangeSet2::new_unchecked(smallvec![9, 17]);
-            /// assert!(set.contains(&12));
-            /// ```
+            #[doc = example!($form "RangeSet2", "smallvec::smallvec";
+                "let set: RangeSet2<u8> = RangeSet2::new_unchecked(smallvec![9, 17]);",
+                "assert!(set.contains(&12));",
+            )]
             #[cfg(feature = "new_unchecked")]
             #[cfg_attr(docsrs, doc(cfg(feature = "new_unchecked")))]
             #[must_use]
@@ -72,15 +62,10 @@ macro_rules! constructors {
             ///
             #[doc = $errors!("If there is no room for the boundaries, or none to sort them: more \
                 than 20 take a list of their places.")]
-            /// # Examples
-            ///
-            /// ```
-            #[doc = concat!("use ", $at, "::RangeSet2;")]
-            ///
-            #[doc = concat!("let set: RangeSet2<i32> = RangeSet2::from_unsorted([20, 0, 10, 0])", $ok)]
-            /// assert_eq!(set.boundaries(), [0, 10, 20]);
-            #[doc = $end]
-            /// ```
+            #[doc = example!($form "RangeSet2";
+                "let set: RangeSet2<i32> = RangeSet2::from_unsorted([20, 0, 10, 0])"?
+                "assert_eq!(set.boundaries(), [0, 10, 20]);",
+            )]
             #[$must_use]
             pub fn from_unsorted(boundaries: impl IntoIterator<Item = T>) -> $form::Returned<Self>
             where
@@ -94,19 +79,14 @@ macro_rules! constructors {
 
             /// Returns the empty set. It takes no memory, and can be a constant.
             ///
-            /// # Examples
-            ///
-            /// ```
-            #[doc = concat!("use ", $at, "::RangeSet2;")]
-            ///
-            /// static NOTHING: RangeSet2<i32> = RangeSet2::empty();
-            /// assert!(NOTHING.is_empty());
-            ///
-            /// let mut busy = RangeSet2::empty();
-            #[doc = concat!("busy.insert(9..17)", $ok)]
-            /// assert_eq!(busy.to_string(), "9..17");
-            #[doc = $end]
-            /// ```
+            #[doc = example!($form "RangeSet2";
+                "static NOTHING: RangeSet2<i32> = RangeSet2::empty();",
+                "assert!(NOTHING.is_empty());",
+                "",
+                "let mut busy = RangeSet2::empty();",
+                "busy.insert(9..17)"?
+                "busy" => "9..17",
+            )]
             #[doc(alias = "new")]
             #[must_use]
             pub const fn empty() -> Self {
@@ -119,15 +99,10 @@ macro_rules! constructors {
             ///
             #[doc = $errors!("If memory runs out, which happens only if the set keeps no boundary in \
                 itself.")]
-            /// # Examples
-            ///
-            /// ```
-            #[doc = concat!("use ", $at, "::RangeSet2;")]
-            ///
-            #[doc = concat!("let all = RangeSet2::<i8>::all()", $ok)]
-            /// assert!(all.is_all() && all.contains(&-128));
-            #[doc = $end]
-            /// ```
+            #[doc = example!($form "RangeSet2";
+                "let all = RangeSet2::<i8>::all()"?
+                "assert!(all.is_all() && all.contains(&-128));",
+            )]
             #[$must_use]
             pub fn all() -> $form::Returned<Self>
             where
@@ -145,15 +120,10 @@ macro_rules! constructors {
             /// *O*(*n* log *n*) comparisons.
             ///
             #[doc = $errors!("`collect` does the same." or "If memory runs out.")]
-            /// # Examples
-            ///
-            /// ```
-            #[doc = concat!("use ", $at, "::RangeSet2;")]
-            ///
-            #[doc = concat!("let busy = RangeSet2::<u32>::from_ranges([15..18, 11..12, 12..13])", $ok)]
-            /// assert_eq!(busy.to_string(), "11..13, 15..18");
-            #[doc = $end]
-            /// ```
+            #[doc = example!($form "RangeSet2";
+                "let busy = RangeSet2::<u32>::from_ranges([15..18, 11..12, 12..13])"?
+                "busy" => "11..13, 15..18",
+            )]
             #[$must_use]
             pub fn from_ranges<R>(ranges: impl IntoIterator<Item = R>) -> $form::Returned<Self>
             where
@@ -170,15 +140,10 @@ macro_rules! constructors {
             /// It takes as long as [`from_ranges`](Self::from_ranges) with as many ranges.
             ///
             #[doc = $errors!("If memory runs out.")]
-            /// # Examples
-            ///
-            /// ```
-            #[doc = concat!("use ", $at, "::RangeSet2;")]
-            ///
-            #[doc = concat!("let set = RangeSet2::<u8>::from_values([7, 3, 255, 4, 3])", $ok)]
-            /// assert_eq!(set.to_string(), "3..5, 7..8, 255..");
-            #[doc = $end]
-            /// ```
+            #[doc = example!($form "RangeSet2";
+                "let set = RangeSet2::<u8>::from_values([7, 3, 255, 4, 3])"?
+                "set" => "3..5, 7..8, 255..",
+            )]
             #[$must_use]
             pub fn from_values(values: impl IntoIterator<Item = T>) -> $form::Returned<Self>
             where
@@ -192,18 +157,12 @@ macro_rules! constructors {
             /// It copies each boundary once, and then joins the sets in pairs.
             ///
             #[doc = $errors!("If memory runs out or a copy fails.")]
-            /// # Examples
-            ///
-            /// ```
-            #[doc = concat!("use ", $at, "::RangeSet2;")]
-            /// use range_sets::RangeSetRef;
-            ///
-            #[doc = concat!("let mine = RangeSet2::", $from, "(9..11)", $ok)]
-            /// let yours = RangeSetRef::new(&[10, 12, 15, 18]).unwrap();
-            #[doc = concat!("let busy: RangeSet2<u32> = RangeSet2::union_all([&mine, yours])", $ok)]
-            /// assert_eq!(busy.to_string(), "9..12, 15..18");
-            #[doc = $end]
-            /// ```
+            #[doc = example!($form "RangeSet2", "range_sets::RangeSetRef";
+                "let mine = RangeSet2::" $from "(9..11)"?
+                "let yours = RangeSetRef::new(&[10, 12, 15, 18]).unwrap();",
+                "let busy: RangeSet2<u32> = RangeSet2::union_all([&mine, yours])"?
+                "busy" => "9..12, 15..18",
+            )]
             #[$must_use]
             pub fn union_all<S>(sets: impl IntoIterator<Item = S>) -> $form::Returned<Self>
             where
@@ -220,20 +179,12 @@ macro_rules! constructors {
             /// It copies the first set, and cuts it to one after the other.
             ///
             #[doc = $errors!("If memory runs out or a copy fails.")]
-            /// # Examples
-            ///
-            /// ```
-            #[doc = concat!("use ", $at, "::RangeSet2;")]
-            /// use range_sets::RangeSetRef;
-            ///
-            #[doc = concat!("let mine = RangeSet2::", $from, "(9..17)", $ok)]
-            /// let yours = RangeSetRef::new(&[10, 12, 15, 18]).unwrap();
-            #[doc = concat!(
-                "let free: RangeSet2<u32> = RangeSet2::intersection_all([&mine, yours])", $ok
+            #[doc = example!($form "RangeSet2", "range_sets::RangeSetRef";
+                "let mine = RangeSet2::" $from "(9..17)"?
+                "let yours = RangeSetRef::new(&[10, 12, 15, 18]).unwrap();",
+                "let free: RangeSet2<u32> = RangeSet2::intersection_all([&mine, yours])"?
+                "free" => "10..12, 15..17",
             )]
-            /// assert_eq!(free.to_string(), "10..12, 15..17");
-            #[doc = $end]
-            /// ```
             #[$must_use]
             pub fn intersection_all<S>(sets: impl IntoIterator<Item = S>) -> $form::Returned<Self>
             where
@@ -246,15 +197,10 @@ macro_rules! constructors {
 
             /// Returns the list of the boundaries, strictly sorted.
             ///
-            /// # Examples
-            ///
-            /// ```
-            #[doc = concat!("use ", $at, "::RangeSet2;")]
-            ///
-            #[doc = concat!("let set = RangeSet2::", $from, "(0..10)", $ok)]
-            /// assert_eq!(set.into_inner().as_slice(), [0, 10]);
-            #[doc = $end]
-            /// ```
+            #[doc = example!($form "RangeSet2";
+                "let set = RangeSet2::" $from "(0..10)"?
+                "assert_eq!(set.into_inner().as_slice(), [0, 10]);",
+            )]
             #[must_use]
             pub fn into_inner(self) -> SmallVec<A> {
                 A::inner(self.list)

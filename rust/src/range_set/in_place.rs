@@ -21,18 +21,13 @@ macro_rules! changes {
             ///
             #[doc = $errors!("If memory runs out. The set is then as it was. Memory is asked for only \
                 if the set grows and has no room.")]
-            /// # Examples
-            ///
-            /// ```
-            #[doc = concat!("use ", $at, "::RangeSet2;")]
-            ///
-            #[doc = concat!("let mut busy = RangeSet2::", $from, "(11..12)", $ok)]
-            #[doc = concat!("busy.insert(12..14)", $ok)]
-            #[doc = concat!("busy.insert(9..10)", $ok)]
-            #[doc = concat!("busy.insert(22..)", $ok)]
-            /// assert_eq!(busy.to_string(), "9..10, 11..14, 22..");
-            #[doc = $end]
-            /// ```
+            #[doc = example!($form "RangeSet2";
+                "let mut busy = RangeSet2::" $from "(11..12)"?
+                "busy.insert(12..14)"?
+                "busy.insert(9..10)"?
+                "busy.insert(22..)"?
+                "busy" => "9..10, 11..14, 22..",
+            )]
             #[inline]
             pub fn insert(&mut self, range: impl AnyRange<T>) -> $form::Returned<()> {
                 $form::returned::<T, _, _>(self.list.set_range(range.into(), true))
@@ -42,17 +37,12 @@ macro_rules! changes {
             /// of them wasn't a member.
             ///
             #[doc = $errors!("If memory runs out. The set is then as it was.")]
-            /// # Examples
-            ///
-            /// ```
-            #[doc = concat!("use ", $at, "::RangeSet2;")]
-            ///
-            #[doc = concat!("let mut seen = RangeSet2::", $from, "(0..10)", $ok)]
-            #[doc = concat!("let changed = seen.insert_changed(5..12)", $ok)]
-            #[doc = concat!("let again = seen.insert_changed(3..=11)", $ok)]
-            /// assert!(changed && !again);
-            #[doc = $end]
-            /// ```
+            #[doc = example!($form "RangeSet2";
+                "let mut seen = RangeSet2::" $from "(0..10)"?
+                "let changed = seen.insert_changed(5..12)"?
+                "let again = seen.insert_changed(3..=11)"?
+                "assert!(changed && !again);",
+            )]
             pub fn insert_changed(&mut self, range: impl AnyRange<T>) -> $form::Returned<bool> {
                 let range = range.into();
                 let changes = self.view().lacks_some(&range);
@@ -66,16 +56,11 @@ macro_rules! changes {
             ///
             #[doc = $errors!("If memory runs out. The set is then as it was. Memory is asked for only \
                 if the set grows and has no room.")]
-            /// # Examples
-            ///
-            /// ```
-            #[doc = concat!("use ", $at, "::RangeSet2;")]
-            ///
-            #[doc = concat!("let mut open = RangeSet2::", $from, "(9..17)", $ok)]
-            #[doc = concat!("open.remove(12..13)", $ok)]
-            /// assert_eq!(open.to_string(), "9..12, 13..17");
-            #[doc = $end]
-            /// ```
+            #[doc = example!($form "RangeSet2";
+                "let mut open = RangeSet2::" $from "(9..17)"?
+                "open.remove(12..13)"?
+                "open" => "9..12, 13..17",
+            )]
             #[inline]
             pub fn remove(&mut self, range: impl AnyRange<T>) -> $form::Returned<()> {
                 $form::returned::<T, _, _>(self.list.set_range(range.into(), false))
@@ -85,17 +70,12 @@ macro_rules! changes {
             /// one of them was a member.
             ///
             #[doc = $errors!("If memory runs out. The set is then as it was.")]
-            /// # Examples
-            ///
-            /// ```
-            #[doc = concat!("use ", $at, "::RangeSet2;")]
-            ///
-            #[doc = concat!("let mut free = RangeSet2::", $from, "(0..10)", $ok)]
-            #[doc = concat!("let changed = free.remove_changed(8..)", $ok)]
-            #[doc = concat!("let again = free.remove_changed(8..10)", $ok)]
-            /// assert!(changed && !again);
-            #[doc = $end]
-            /// ```
+            #[doc = example!($form "RangeSet2";
+                "let mut free = RangeSet2::" $from "(0..10)"?
+                "let changed = free.remove_changed(8..)"?
+                "let again = free.remove_changed(8..10)"?
+                "assert!(changed && !again);",
+            )]
             pub fn remove_changed(&mut self, range: impl AnyRange<T>) -> $form::Returned<bool> {
                 let range = range.into();
                 let changes = self.view().has_some(&range);

@@ -14,15 +14,10 @@ macro_rules! room {
             ///
             #[doc = $errors!("# Panics\n\nIf they take more than `isize::MAX` bytes, as \
                 [`Vec::with_capacity`](alloc::vec::Vec::with_capacity) does." or "If memory runs out.")]
-            /// # Examples
-            ///
-            /// ```
-            #[doc = concat!("use ", $at, "::RangeSet2;")]
-            ///
-            #[doc = concat!("let set: RangeSet2<u64> = RangeSet2::with_capacity(200)", $ok)]
-            /// assert!(set.capacity() >= 200);
-            #[doc = $end]
-            /// ```
+            #[doc = example!($form "RangeSet2";
+                "let set: RangeSet2<u64> = RangeSet2::with_capacity(200)"?
+                "assert!(set.capacity() >= 200);",
+            )]
             #[$must_use]
             pub fn with_capacity(boundaries: usize) -> $form::Returned<Self> {
                 let list = A::List::with_capacity(boundaries);
@@ -31,13 +26,9 @@ macro_rules! room {
 
             /// Returns how many boundaries the set has room for.
             ///
-            /// # Examples
-            ///
-            /// ```
-            #[doc = concat!("use ", $at, "::RangeSet;")]
-            ///
-            /// assert_eq!(RangeSet::<[u64; 8]>::empty().capacity(), 8);
-            /// ```
+            #[doc = example!($form "RangeSet";
+                "assert_eq!(RangeSet::<[u64; 8]>::empty().capacity(), 8);",
+            )]
             #[must_use]
             pub fn capacity(&self) -> usize {
                 self.list.capacity()
@@ -49,16 +40,11 @@ macro_rules! room {
             #[doc = $errors!("# Panics\n\nIf all boundaries would then take more than `isize::MAX` \
                 bytes, as [`Vec::reserve`](alloc::vec::Vec::reserve) does."
                 or "If memory runs out. The set is then as it was.")]
-            /// # Examples
-            ///
-            /// ```
-            #[doc = concat!("use ", $at, "::RangeSet2;")]
-            ///
-            #[doc = concat!("let mut set = RangeSet2::", $from, "(0..10)", $ok)]
-            #[doc = concat!("set.reserve(20)", $ok)]
-            /// assert!(set.capacity() >= 22);
-            #[doc = $end]
-            /// ```
+            #[doc = example!($form "RangeSet2";
+                "let mut set = RangeSet2::" $from "(0..10)"?
+                "set.reserve(20)"?
+                "assert!(set.capacity() >= 22);",
+            )]
             pub fn reserve(&mut self, boundaries: usize) -> $form::Returned<()> {
                 let items = self.boundaries().len().checked_add(boundaries);
                 $form::reserved::<T, _>(self.list.reserve(boundaries), items)
@@ -67,17 +53,12 @@ macro_rules! room {
             /// Gives back the room that the boundaries don't need. They come to lie in the set
             /// itself where they fit. If the allocator refuses a smaller room, it stays.
             ///
-            /// # Examples
-            ///
-            /// ```
-            #[doc = concat!("use ", $at, "::RangeSet2;")]
-            ///
-            #[doc = concat!("let mut set: RangeSet2<u64> = RangeSet2::with_capacity(200)", $ok)]
-            #[doc = concat!("set.insert(0..10)", $ok)]
-            /// set.shrink_to_fit();
-            /// assert_eq!(set.capacity(), 2);
-            #[doc = $end]
-            /// ```
+            #[doc = example!($form "RangeSet2";
+                "let mut set: RangeSet2<u64> = RangeSet2::with_capacity(200)"?
+                "set.insert(0..10)"?
+                "set.shrink_to_fit();",
+                "assert_eq!(set.capacity(), 2);",
+            )]
             pub fn shrink_to_fit(&mut self) {
                 self.list.shrink_to_fit();
             }

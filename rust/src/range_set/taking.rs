@@ -16,16 +16,11 @@ macro_rules! taking {
         impl<T, A: Array<Item = T>> $form::RangeSet<A> {
             /// Takes all values out. The room stays.
             ///
-            /// # Examples
-            ///
-            /// ```
-            #[doc = concat!("use ", $at, "::RangeSet2;")]
-            ///
-            #[doc = concat!("let mut set = RangeSet2::", $from, "(0..10)", $ok)]
-            /// set.clear();
-            /// assert!(set.is_empty());
-            #[doc = $end]
-            /// ```
+            #[doc = example!($form "RangeSet2";
+                "let mut set = RangeSet2::" $from "(0..10)"?
+                "set.clear();",
+                "assert!(set.is_empty());",
+            )]
             pub fn clear(&mut self) {
                 self.list.clear();
             }
@@ -33,16 +28,11 @@ macro_rules! taking {
             /// Takes the lowest range out and returns it, or `None` if the set is empty. It moves
             /// the other boundaries, and takes no memory.
             ///
-            /// # Examples
-            ///
-            /// ```
-            #[doc = concat!("use ", $at, "::RangeSet2;")]
-            ///
-            #[doc = concat!("let mut set = RangeSet2::", $from, "([0..10, 20..30])", $ok)]
-            /// assert_eq!(set.pop_first(), Some((0..10).into()));
-            /// assert_eq!(set.to_string(), "20..30");
-            #[doc = $end]
-            /// ```
+            #[doc = example!($form "RangeSet2";
+                "let mut set = RangeSet2::" $from "([0..10, 20..30])"?
+                "assert_eq!(set.pop_first(), Some((0..10).into()));",
+                "set" => "20..30",
+            )]
             pub fn pop_first(&mut self) -> Option<RangeSetRange<T>> {
                 self.list.take_first()
             }
@@ -50,15 +40,11 @@ macro_rules! taking {
             /// Takes the highest range out and returns it, or `None` if the set is empty. It takes
             /// no memory.
             ///
-            /// # Examples
-            ///
-            /// ```
-            #[doc = concat!("use ", $at, "::RangeSet2;")]
-            ///
-            /// let mut set: RangeSet2<u8> = "0..10, 20..".parse().unwrap();
-            /// assert_eq!(set.pop_last(), Some((20..).into()));
-            /// assert_eq!(set.to_string(), "0..10");
-            /// ```
+            #[doc = example!($form "RangeSet2";
+                r#"let mut set: RangeSet2<u8> = "0..10, 20..".parse().unwrap();"#,
+                "assert_eq!(set.pop_last(), Some((20..).into()));",
+                "set" => "0..10",
+            )]
             pub fn pop_last(&mut self) -> Option<RangeSetRange<T>> {
                 self.list.take_last()
             }
@@ -92,17 +78,12 @@ macro_rules! taking {
             ///
             #[doc = $errors!("If memory runs out or a copy of a boundary fails. The set is then as it \
                 was.")]
-            /// # Examples
-            ///
-            /// ```
-            #[doc = concat!("use ", $at, "::RangeSet2;")]
-            ///
-            #[doc = concat!("let mut morning = RangeSet2::", $from, "([9..11, 12..15])", $ok)]
-            #[doc = concat!("let afternoon = morning.split_off(&13)", $ok)]
-            /// assert_eq!(morning.to_string(), "9..11, 12..13");
-            /// assert_eq!(afternoon.to_string(), "13..15");
-            #[doc = $end]
-            /// ```
+            #[doc = example!($form "RangeSet2";
+                "let mut morning = RangeSet2::" $from "([9..11, 12..15])"?
+                "let afternoon = morning.split_off(&13)"?
+                "morning" => "9..11, 12..13",
+                "afternoon" => "13..15",
+            )]
             #[must_use = "`difference_with` takes the values out and returns none"]
             pub fn split_off(&mut self, at: &T) -> $form::Returned<Self>
             where
@@ -120,18 +101,13 @@ macro_rules! taking {
             /// Moves all values of `that` into this set, and leaves `that` empty. It copies none.
             ///
             #[doc = $errors!("If memory runs out. Both sets are then as they were.")]
-            /// # Examples
-            ///
-            /// ```
-            #[doc = concat!("use ", $at, "::RangeSet2;")]
-            ///
-            #[doc = concat!("let mut mine = RangeSet2::", $from, "(9..11)", $ok)]
-            #[doc = concat!("let mut yours = RangeSet2::", $from, "(10..12)", $ok)]
-            #[doc = concat!("mine.append(&mut yours)", $ok)]
-            /// assert_eq!(mine.to_string(), "9..12");
-            /// assert!(yours.is_empty());
-            #[doc = $end]
-            /// ```
+            #[doc = example!($form "RangeSet2";
+                "let mut mine = RangeSet2::" $from "(9..11)"?
+                "let mut yours = RangeSet2::" $from "(10..12)"?
+                "mine.append(&mut yours)"?
+                "mine" => "9..12",
+                "assert!(yours.is_empty());",
+            )]
             pub fn append(&mut self, that: &mut Self) -> $form::Returned<()> {
                 let moved = mem::take(that).list;
                 let merged = self.list.merge_owned(moved, &UnionOp);

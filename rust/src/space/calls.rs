@@ -15,6 +15,7 @@ use core::fmt;
 use core::hash::{Hash, Hasher};
 use core::str::FromStr;
 
+#[rustfmt::skip]
 macro_rules! changes {
     (
         $form:ident, $Clone:ident, $must_use:meta, $errors:ident,
@@ -23,13 +24,9 @@ macro_rules! changes {
         impl<T: Countable + Copy> $form::ChunkedSpace<T> {
             /// Returns the space where nothing is taken. It takes no memory.
             ///
-            /// # Examples
-            ///
-            /// ```
-            #[doc = concat!("use ", $at, "::ChunkedSpace;")]
-            ///
-            /// assert!(ChunkedSpace::<u64>::new().is_empty());
-            /// ```
+            #[doc = example!($form "ChunkedSpace";
+                "assert!(ChunkedSpace::<u64>::new().is_empty());",
+            )]
             #[must_use]
             pub fn new() -> Self {
                 $form::ChunkedRangeSet::new().into()
@@ -39,15 +36,10 @@ macro_rules! changes {
             /// which stand in any order.
             ///
             #[doc = $errors!("`collect` does the same." or "If memory runs out.")]
-            /// # Examples
-            ///
-            /// ```
-            #[doc = concat!("use ", $at, "::ChunkedSpace;")]
-            ///
-            #[doc = concat!("let mut used = ChunkedSpace::from_ranges([80u64..128, 0..64])", $ok)]
-            /// assert_eq!(used.first_fit(0..4096, 16), Some(64));
-            #[doc = $end]
-            /// ```
+            #[doc = example!($form "ChunkedSpace";
+                "let mut used = ChunkedSpace::from_ranges([80u64..128, 0..64])"?
+                "assert_eq!(used.first_fit(0..4096, 16), Some(64));",
+            )]
             #[$must_use]
             pub fn from_ranges<R>(ranges: impl IntoIterator<Item = R>) -> $form::Returned<Self>
             where
@@ -63,16 +55,11 @@ macro_rules! changes {
             /// changes nothing.
             ///
             #[doc = $errors!("If memory runs out. The same values are then taken as before.")]
-            /// # Examples
-            ///
-            /// ```
-            #[doc = concat!("use ", $at, "::ChunkedSpace;")]
-            ///
-            /// let mut ports = ChunkedSpace::new();
-            #[doc = concat!("ports.insert(0u16..1024)", $ok)]
-            /// assert!(ports.contains(&80));
-            #[doc = $end]
-            /// ```
+            #[doc = example!($form "ChunkedSpace";
+                "let mut ports = ChunkedSpace::new();",
+                "ports.insert(0u16..1024)"?
+                "assert!(ports.contains(&80));",
+            )]
             #[inline]
             pub fn insert(&mut self, range: impl AnyRange<T>) -> $form::Returned<()> {
                 $form::returned::<T, _, _>(set_taken(self.proved_mut(), range.into(), true))
@@ -84,16 +71,11 @@ macro_rules! changes {
             /// It takes memory only if it cuts a range in two, or ends one that had no end.
             ///
             #[doc = $errors!("If memory runs out. The same values are then taken as before.")]
-            /// # Examples
-            ///
-            /// ```
-            #[doc = concat!("use ", $at, "::ChunkedSpace;")]
-            ///
-            #[doc = concat!("let mut ports = ChunkedSpace::from_ranges([0u16..1024])", $ok)]
-            #[doc = concat!("ports.remove(80..81)", $ok)]
-            /// assert_eq!(ports.first_fit(0..9000, 1), Some(80));
-            #[doc = $end]
-            /// ```
+            #[doc = example!($form "ChunkedSpace";
+                "let mut ports = ChunkedSpace::from_ranges([0u16..1024])"?
+                "ports.remove(80..81)"?
+                "assert_eq!(ports.first_fit(0..9000, 1), Some(80));",
+            )]
             #[inline]
             pub fn remove(&mut self, range: impl AnyRange<T>) -> $form::Returned<()> {
                 $form::returned::<T, _, _>(set_taken(self.proved_mut(), range.into(), false))
@@ -103,17 +85,12 @@ macro_rules! changes {
             /// of them was free.
             ///
             #[doc = $errors!("If memory runs out. The same values are then taken as before.")]
-            /// # Examples
-            ///
-            /// ```
-            #[doc = concat!("use ", $at, "::ChunkedSpace;")]
-            ///
-            #[doc = concat!("let mut ports = ChunkedSpace::from_ranges([0u16..1024])", $ok)]
-            #[doc = concat!("let changed = ports.insert_changed(1000..=1024)", $ok)]
-            #[doc = concat!("let again = ports.insert_changed(1000..=1024)", $ok)]
-            /// assert!(changed && !again);
-            #[doc = $end]
-            /// ```
+            #[doc = example!($form "ChunkedSpace";
+                "let mut ports = ChunkedSpace::from_ranges([0u16..1024])"?
+                "let changed = ports.insert_changed(1000..=1024)"?
+                "let again = ports.insert_changed(1000..=1024)"?
+                "assert!(changed && !again);",
+            )]
             pub fn insert_changed(&mut self, range: impl AnyRange<T>) -> $form::Returned<bool> {
                 let range = range.into();
                 let changes = !self.contains_range(range.clone());
@@ -125,17 +102,12 @@ macro_rules! changes {
             /// of them was taken.
             ///
             #[doc = $errors!("If memory runs out. The same values are then taken as before.")]
-            /// # Examples
-            ///
-            /// ```
-            #[doc = concat!("use ", $at, "::ChunkedSpace;")]
-            ///
-            #[doc = concat!("let mut ports = ChunkedSpace::from_ranges([0u16..1024])", $ok)]
-            #[doc = concat!("let changed = ports.remove_changed(1000..)", $ok)]
-            #[doc = concat!("let again = ports.remove_changed(1000..)", $ok)]
-            /// assert!(changed && !again);
-            #[doc = $end]
-            /// ```
+            #[doc = example!($form "ChunkedSpace";
+                "let mut ports = ChunkedSpace::from_ranges([0u16..1024])"?
+                "let changed = ports.remove_changed(1000..)"?
+                "let again = ports.remove_changed(1000..)"?
+                "assert!(changed && !again);",
+            )]
             pub fn remove_changed(&mut self, range: impl AnyRange<T>) -> $form::Returned<bool> {
                 let range = range.into();
                 let changes = self.intersects_range(range.clone());
@@ -145,16 +117,11 @@ macro_rules! changes {
 
             /// Frees all values.
             ///
-            /// # Examples
-            ///
-            /// ```
-            #[doc = concat!("use ", $at, "::ChunkedSpace;")]
-            ///
-            #[doc = concat!("let mut ports = ChunkedSpace::from_ranges([0u16..1024])", $ok)]
-            /// ports.clear();
-            /// assert_eq!(ports.first_fit(0..9000, 1), Some(0));
-            #[doc = $end]
-            /// ```
+            #[doc = example!($form "ChunkedSpace";
+                "let mut ports = ChunkedSpace::from_ranges([0u16..1024])"?
+                "ports.clear();",
+                "assert_eq!(ports.first_fit(0..9000, 1), Some(0));",
+            )]
             pub fn clear(&mut self) {
                 self.proved_mut().clear();
             }
@@ -168,17 +135,12 @@ macro_rules! changes {
             /// Without memory it remembers less. Among a million ranges it takes 61 microseconds to
             /// free one and to place one lowest, by bench/README.md.
             ///
-            /// # Examples
-            ///
-            /// ```
-            #[doc = concat!("use ", $at, "::ChunkedSpace;")]
-            ///
-            #[doc = concat!("let mut used = ChunkedSpace::from_ranges([0u64..64, 80..128])", $ok)]
-            /// assert_eq!(used.first_fit(0..4096, 16), Some(64));
-            /// assert_eq!(used.first_fit(0..4096, 20), Some(128));
-            /// assert_eq!(used.first_fit(0..140, 20), None);
-            #[doc = $end]
-            /// ```
+            #[doc = example!($form "ChunkedSpace";
+                "let mut used = ChunkedSpace::from_ranges([0u64..64, 80..128])"?
+                "assert_eq!(used.first_fit(0..4096, 16), Some(64));",
+                "assert_eq!(used.first_fit(0..4096, 20), Some(128));",
+                "assert_eq!(used.first_fit(0..140, 20), None);",
+            )]
             pub fn first_fit(&mut self, within: impl Ended<T>, len: T) -> Option<T>
             where
                 T: Length,
@@ -190,16 +152,11 @@ macro_rules! changes {
             /// `None` if there is no such stretch. It costs what [`first_fit`](Self::first_fit)
             /// does.
             ///
-            /// # Examples
-            ///
-            /// ```
-            #[doc = concat!("use ", $at, "::ChunkedSpace;")]
-            ///
-            #[doc = concat!("let mut busy = ChunkedSpace::from_ranges([-64i64..-8, -6..0])", $ok)]
-            /// assert_eq!(busy.first_fit_count(-64..64, 2), Some(-8));
-            /// assert_eq!(busy.first_fit_count(-64..64, 3), Some(0));
-            #[doc = $end]
-            /// ```
+            #[doc = example!($form "ChunkedSpace";
+                "let mut busy = ChunkedSpace::from_ranges([-64i64..-8, -6..0])"?
+                "assert_eq!(busy.first_fit_count(-64..64, 2), Some(-8));",
+                "assert_eq!(busy.first_fit_count(-64..64, 3), Some(0));",
+            )]
             pub fn first_fit_count(&mut self, within: impl Ended<T>, count: u128) -> Option<T> {
                 self.proved_mut().first_fit_count(within, count)
             }
@@ -214,16 +171,11 @@ macro_rules! changes {
             /// hold no such value, it remembers that for the last `align` alone: calls that
             /// alternate between two read those gaps again.
             ///
-            /// # Examples
-            ///
-            /// ```
-            #[doc = concat!("use ", $at, "::ChunkedSpace;")]
-            ///
-            #[doc = concat!("let mut used = ChunkedSpace::from_ranges([0u64..10, 30..128])", $ok)]
-            /// assert_eq!(used.first_fit_aligned(0..4096, 14, 16), Some(16));
-            /// assert_eq!(used.first_fit_aligned(0..4096, 16, 16), Some(128));
-            #[doc = $end]
-            /// ```
+            #[doc = example!($form "ChunkedSpace";
+                "let mut used = ChunkedSpace::from_ranges([0u64..10, 30..128])"?
+                "assert_eq!(used.first_fit_aligned(0..4096, 14, 16), Some(16));",
+                "assert_eq!(used.first_fit_aligned(0..4096, 16, 16), Some(128));",
+            )]
             pub fn first_fit_aligned(
                 &mut self,
                 within: impl Ended<T>,
@@ -252,15 +204,10 @@ macro_rules! changes {
 
         /// The set of what is taken, which is moved.
         ///
-        /// # Examples
-        ///
-        /// ```
-        #[doc = concat!("use ", $at, "::{ChunkedRangeSet, ChunkedSpace};")]
-        ///
-        #[doc = concat!("let used = ChunkedSpace::from_ranges([0u64..64])", $ok)]
-        /// assert_eq!(ChunkedRangeSet::from(used).to_string(), "0..64");
-        #[doc = $end]
-        /// ```
+        #[doc = example!($form "{ChunkedRangeSet, ChunkedSpace}";
+            "let used = ChunkedSpace::from_ranges([0u64..64])"?
+            r#"assert_eq!(ChunkedRangeSet::from(used).to_string(), "0..64");"#,
+        )]
         impl<T: Countable + Copy> From<$form::ChunkedSpace<T>> for $form::ChunkedRangeSet<T> {
             fn from(space: $form::ChunkedSpace<T>) -> Self {
                 Self::of_proved(space.into_proved().into_set())

@@ -21,17 +21,12 @@ macro_rules! operations_named {
         $(#[$does])*
         ///
         #[doc = $errors!("If memory runs out or a copy fails.")]
-        /// # Examples
-        ///
-        /// ```
-        #[doc = concat!("use ", $at, "::RangeSet2;")]
-        ///
-        #[doc = concat!("let a = RangeSet2::", $from, "(0..10)", $ok)]
-        #[doc = concat!("let b = RangeSet2::", $from, "(", $that, ")", $ok)]
-        #[doc = concat!("let ", $made, ": RangeSet2<i32> = a.", stringify!($call), "(&b)", $ok)]
-        #[doc = concat!("assert_eq!(", $made, ".boundaries(), ", $boundaries, ");")]
-        #[doc = $end]
-        /// ```
+        #[doc = example!($form "RangeSet2";
+            "let a = RangeSet2::" $from "(0..10)"?
+            "let b = RangeSet2::" $from "(" $that ")"?
+            ["let ", $made, ": RangeSet2<i32> = a.", stringify!($call), "(&b)"]?
+            "assert_eq!(" $made ".boundaries(), " $boundaries ");",
+        )]
         #[$must_use]
         pub fn $call<B>(&self, that: &RangeSetRef<T>) -> $form::Returned<$form::RangeSet<B>>
         where
@@ -85,18 +80,12 @@ macro_rules! operations {
             /// [`Connective::NOT_LEFT`] does. Those are values from the least one on.
             ///
             #[doc = $errors!("If memory runs out or a copy fails.")]
-            /// # Examples
-            ///
-            /// ```
-            #[doc = concat!("use ", $at, "::RangeSet2;")]
-            /// use range_sets::Connective;
-            ///
-            #[doc = concat!("let a = RangeSet2::<u8>::", $from, "(0..10)", $ok)]
-            #[doc = concat!("let b = RangeSet2::", $from, "(5..20)", $ok)]
-            #[doc = concat!("let rest: RangeSet2<u8> = a.combine(&b, Connective::NEITHER)", $ok)]
-            /// assert_eq!(rest.boundaries(), [20]);
-            #[doc = $end]
-            /// ```
+            #[doc = example!($form "RangeSet2", "range_sets::Connective";
+                "let a = RangeSet2::<u8>::" $from "(0..10)"?
+                "let b = RangeSet2::" $from "(5..20)"?
+                "let rest: RangeSet2<u8> = a.combine(&b, Connective::NEITHER)"?
+                "assert_eq!(rest.boundaries(), [20]);",
+            )]
             #[$must_use]
             pub fn combine<B>(
                 &self,
