@@ -10,6 +10,7 @@ use crate::range::RangeSetRange;
 use crate::view::RangeSetRef;
 
 /// `$name` is the set of the examples.
+#[rustfmt::skip]
 macro_rules! questions {
     ($Set:ident, $Iter:ident, $name:literal) => {
         impl<T: Ord> $Set<T> {
@@ -17,15 +18,11 @@ macro_rules! questions {
             ///
             /// It makes *O*(log *n*) comparisons, where *n* is the number of boundaries.
             ///
-            /// # Examples
-            ///
-            /// ```
-            #[doc = concat!("use range_sets::", $name, ";")]
-            ///
-            #[doc = concat!("let set = ", $name, "::from(0..10);")]
-            /// assert!(set.contains(&0));
-            /// assert!(!set.contains(&10));
-            /// ```
+            #[doc = example!(ends $name;
+                "let set = " $name "::from(0..10);",
+                "assert!(set.contains(&0));",
+                "assert!(!set.contains(&10));",
+            )]
             #[inline]
             #[must_use]
             pub fn contains(&self, value: &T) -> bool {
@@ -34,14 +31,10 @@ macro_rules! questions {
 
             /// Returns `true` if all values are members.
             ///
-            /// # Examples
-            ///
-            /// ```
-            #[doc = concat!("use range_sets::", $name, ";")]
-            ///
-            #[doc = concat!("assert!(", $name, "::from(0u8..).is_all());")]
-            #[doc = concat!("assert!(!", $name, "::from(1u8..).is_all());")]
-            /// ```
+            #[doc = example!(ends $name;
+                "assert!(" $name "::from(0u8..).is_all());",
+                "assert!(!" $name "::from(1u8..).is_all());",
+            )]
             #[must_use]
             pub fn is_all(&self) -> bool
             where
@@ -55,16 +48,12 @@ macro_rules! questions {
             ///
             /// It makes *O*(log *n*) comparisons.
             ///
-            /// # Examples
-            ///
-            /// ```
-            #[doc = concat!("use range_sets::", $name, ";")]
-            ///
-            #[doc = concat!("let day = ", $name, "::from(9..17);")]
-            /// assert!(day.contains_range(10..17));
-            /// assert!(!day.contains_range(10..=17));
-            /// assert!(!day.contains_range(16..));
-            /// ```
+            #[doc = example!(ends $name;
+                "let day = " $name "::from(9..17);",
+                "assert!(day.contains_range(10..17));",
+                "assert!(!day.contains_range(10..=17));",
+                "assert!(!day.contains_range(16..));",
+            )]
             #[inline]
             #[must_use]
             pub fn contains_range(&self, range: impl AnyRange<T>) -> bool {
@@ -79,16 +68,12 @@ macro_rules! questions {
             ///
             /// It makes *O*(log *n*) comparisons.
             ///
-            /// # Examples
-            ///
-            /// ```
-            #[doc = concat!("use range_sets::", $name, ";")]
-            ///
-            #[doc = concat!("let day = ", $name, "::from(9..17);")]
-            /// assert!(day.intersects_range(16..18));
-            /// assert!(!day.intersects_range(17..));
-            /// assert!(day.intersects_range(..=9));
-            /// ```
+            #[doc = example!(ends $name;
+                "let day = " $name "::from(9..17);",
+                "assert!(day.intersects_range(16..18));",
+                "assert!(!day.intersects_range(17..));",
+                "assert!(day.intersects_range(..=9));",
+            )]
             #[inline]
             #[must_use]
             pub fn intersects_range(&self, range: impl AnyRange<T>) -> bool {
@@ -114,15 +99,11 @@ macro_rules! questions {
             ///
             /// It makes *O*(log *n*) comparisons.
             ///
-            /// # Examples
-            ///
-            /// ```
-            #[doc = concat!("use range_sets::", $name, ";")]
-            ///
-            #[doc = concat!("let busy = ", $name, "::from([9..11, 15..18]);")]
-            /// assert_eq!(busy.range_at(&16), Some((&15..&18).into()));
-            /// assert_eq!(busy.range_at(&11), None);
-            /// ```
+            #[doc = example!(ends $name;
+                "let busy = " $name "::from([9..11, 15..18]);",
+                "assert_eq!(busy.range_at(&16), Some((&15..&18).into()));",
+                "assert_eq!(busy.range_at(&11), None);",
+            )]
             #[must_use]
             pub fn range_at(&self, value: &T) -> Option<RangeSetRange<&T>> {
                 self.proved()
@@ -135,16 +116,12 @@ macro_rules! questions {
             /// It is `from` itself if that is a member, else the start of the next range. It makes
             /// *O*(log *n*) comparisons.
             ///
-            /// # Examples
-            ///
-            /// ```
-            #[doc = concat!("use range_sets::", $name, ";")]
-            ///
-            #[doc = concat!("let busy = ", $name, "::from([9..11, 15..18]);")]
-            /// assert_eq!(busy.next_member(&10), Some(&10));
-            /// assert_eq!(busy.next_member(&11), Some(&15));
-            /// assert_eq!(busy.next_member(&18), None);
-            /// ```
+            #[doc = example!(ends $name;
+                "let busy = " $name "::from([9..11, 15..18]);",
+                "assert_eq!(busy.next_member(&10), Some(&10));",
+                "assert_eq!(busy.next_member(&11), Some(&15));",
+                "assert_eq!(busy.next_member(&18), None);",
+            )]
             #[must_use]
             pub fn next_member<'a>(&'a self, from: &'a T) -> Option<&'a T> {
                 self.proved().next_member(from)
@@ -179,16 +156,12 @@ macro_rules! questions {
             /// It is `from` itself if that is a member, else the value just below the end of the
             /// range before. It makes *O*(log *n*) comparisons.
             ///
-            /// # Examples
-            ///
-            /// ```
-            #[doc = concat!("use range_sets::", $name, ";")]
-            ///
-            #[doc = concat!("let busy = ", $name, "::from([9..11, 15..18]);")]
-            /// assert_eq!(busy.prev_member(&9), Some(9));
-            /// assert_eq!(busy.prev_member(&14), Some(10));
-            /// assert_eq!(busy.prev_member(&8), None);
-            /// ```
+            #[doc = example!(ends $name;
+                "let busy = " $name "::from([9..11, 15..18]);",
+                "assert_eq!(busy.prev_member(&9), Some(9));",
+                "assert_eq!(busy.prev_member(&14), Some(10));",
+                "assert_eq!(busy.prev_member(&8), None);",
+            )]
             #[must_use]
             pub fn prev_member(&self, from: &T) -> Option<T>
             where
@@ -200,14 +173,10 @@ macro_rules! questions {
             /// Returns the greatest member, or `None` if the set is empty. It makes *O*(log *n*)
             /// comparisons.
             ///
-            /// # Examples
-            ///
-            /// ```
-            #[doc = concat!("use range_sets::", $name, ";")]
-            ///
-            #[doc = concat!("assert_eq!(", $name, "::from([9u8..11, 15..18]).last_member(), Some(17));")]
-            #[doc = concat!("assert_eq!(", $name, "::from(9u8..).last_member(), Some(255));")]
-            /// ```
+            #[doc = example!(ends $name;
+                "assert_eq!(" $name "::from([9u8..11, 15..18]).last_member(), Some(17));",
+                "assert_eq!(" $name "::from(9u8..).last_member(), Some(255));",
+            )]
             #[must_use]
             pub fn last_member(&self) -> Option<T>
             where
@@ -222,16 +191,12 @@ macro_rules! questions {
             /// It is `from` itself if that is no member, else the value just below the start of the
             /// range that has it. It makes *O*(log *n*) comparisons.
             ///
-            /// # Examples
-            ///
-            /// ```
-            #[doc = concat!("use range_sets::", $name, ";")]
-            ///
-            #[doc = concat!("let busy = ", $name, "::from([0u8..11, 15..18]);")]
-            /// assert_eq!(busy.prev_gap(&16), Some(14));
-            /// assert_eq!(busy.prev_gap(&18), Some(18));
-            /// assert_eq!(busy.prev_gap(&10), None);
-            /// ```
+            #[doc = example!(ends $name;
+                "let busy = " $name "::from([0u8..11, 15..18]);",
+                "assert_eq!(busy.prev_gap(&16), Some(14));",
+                "assert_eq!(busy.prev_gap(&18), Some(18));",
+                "assert_eq!(busy.prev_gap(&10), None);",
+            )]
             #[must_use]
             pub fn prev_gap(&self, from: &T) -> Option<T>
             where
@@ -242,14 +207,10 @@ macro_rules! questions {
 
             /// Returns the lowest range, or `None` if the set is empty.
             ///
-            /// # Examples
-            ///
-            /// ```
-            #[doc = concat!("use range_sets::", $name, ";")]
-            ///
-            #[doc = concat!("let busy = ", $name, "::from([9..11, 15..18]);")]
-            /// assert_eq!(busy.first(), Some((&9..&11).into()));
-            /// ```
+            #[doc = example!(ends $name;
+                "let busy = " $name "::from([9..11, 15..18]);",
+                "assert_eq!(busy.first(), Some((&9..&11).into()));",
+            )]
             #[must_use]
             pub fn first(&self) -> Option<RangeSetRange<&T>> {
                 self.proved().first().map(RangeSetRange::from_proved)
@@ -257,14 +218,10 @@ macro_rules! questions {
 
             /// Returns the highest range, or `None` if the set is empty.
             ///
-            /// # Examples
-            ///
-            /// ```
-            #[doc = concat!("use range_sets::", $name, ";")]
-            ///
-            #[doc = concat!("let busy = ", $name, "::from([9..11, 15..18]);")]
-            /// assert_eq!(busy.last(), Some((&15..&18).into()));
-            /// ```
+            #[doc = example!(ends $name;
+                "let busy = " $name "::from([9..11, 15..18]);",
+                "assert_eq!(busy.last(), Some((&15..&18).into()));",
+            )]
             #[must_use]
             pub fn last(&self) -> Option<RangeSetRange<&T>> {
                 self.proved().last().map(RangeSetRange::from_proved)
@@ -273,14 +230,10 @@ macro_rules! questions {
             /// Returns the range from the start of the lowest range to the end of the highest, or
             /// `None` if the set is empty.
             ///
-            /// # Examples
-            ///
-            /// ```
-            #[doc = concat!("use range_sets::", $name, ";")]
-            ///
-            #[doc = concat!("let busy = ", $name, "::from([9..11, 15..18]);")]
-            /// assert_eq!(busy.span(), Some((&9..&18).into()));
-            /// ```
+            #[doc = example!(ends $name;
+                "let busy = " $name "::from([9..11, 15..18]);",
+                "assert_eq!(busy.span(), Some((&9..&18).into()));",
+            )]
             #[must_use]
             pub fn span(&self) -> Option<RangeSetRange<&T>> {
                 self.proved().span().map(RangeSetRange::from_proved)
@@ -293,18 +246,14 @@ macro_rules! questions {
             /// the ends are references. The range may be of any kind: [`Within`] says what its
             /// parts are.
             ///
-            /// # Examples
-            ///
-            /// ```
-            #[doc = concat!("use range_sets::", $name, ";")]
-            ///
-            #[doc = concat!("let busy = ", $name, "::from([9..11, 12..15]);")]
-            /// assert!(busy.gaps(8..18).eq([8..9, 11..12, 15..18]));
-            /// assert!(busy.gaps(12..).eq([(15..).into()]));
-            ///
-            /// let free: Vec<_> = busy.gaps(&8..&18).collect();
-            /// assert_eq!(free, [&8..&9, &11..&12, &15..&18]);
-            /// ```
+            #[doc = example!(ends $name;
+                "let busy = " $name "::from([9..11, 12..15]);",
+                "assert!(busy.gaps(8..18).eq([8..9, 11..12, 15..18]));",
+                "assert!(busy.gaps(12..).eq([(15..).into()]));",
+                "",
+                "let free: Vec<_> = busy.gaps(&8..&18).collect();",
+                "assert_eq!(free, [&8..&9, &11..&12, &15..&18]);",
+            )]
             pub fn gaps<'a, R: Within<'a, T, Self>>(&'a self, within: R) -> R::Parts {
                 within.parts_of(self, false)
             }
@@ -316,14 +265,10 @@ macro_rules! questions {
             /// the ends are references. The range may be of any kind: [`Within`] says what its
             /// parts are. [`overlapping`](Self::overlapping) gives ranges that aren't cut.
             ///
-            /// # Examples
-            ///
-            /// ```
-            #[doc = concat!("use range_sets::", $name, ";")]
-            ///
-            #[doc = concat!("let busy = ", $name, "::from([9..11, 12..15]);")]
-            /// assert!(busy.ranges_within(10..13).eq([10..11, 12..13]));
-            /// ```
+            #[doc = example!(ends $name;
+                "let busy = " $name "::from([9..11, 12..15]);",
+                "assert!(busy.ranges_within(10..13).eq([10..11, 12..13]));",
+            )]
             pub fn ranges_within<'a, R: Within<'a, T, Self>>(&'a self, within: R) -> R::Parts {
                 within.parts_of(self, true)
             }
@@ -333,15 +278,11 @@ macro_rules! questions {
             ///
             /// It makes *O*(log *n*) comparisons, and none for a step.
             ///
-            /// # Examples
-            ///
-            /// ```
-            #[doc = concat!("use range_sets::", $name, ";")]
-            ///
-            #[doc = concat!("let busy = ", $name, "::from([9..11, 12..15, 20..30]);")]
-            /// let met: Vec<_> = busy.overlapping(10..13).copied().collect();
-            /// assert_eq!(met, [(9..11).into(), (12..15).into()]);
-            /// ```
+            #[doc = example!(ends $name;
+                "let busy = " $name "::from([9..11, 12..15, 20..30]);",
+                "let met: Vec<_> = busy.overlapping(10..13).copied().collect();",
+                "assert_eq!(met, [(9..11).into(), (12..15).into()]);",
+            )]
             pub fn overlapping(&self, range: impl Overlaps<T>) -> $Iter<'_, T> {
                 range.found(|range| match range {
                     RangeSetRange::Range(it) => $Iter::of_proved(self.proved().overlapping(it)),
@@ -354,16 +295,12 @@ macro_rules! questions {
             ///
             /// It looks at each boundary.
             ///
-            /// # Examples
-            ///
-            /// ```
-            #[doc = concat!("use range_sets::", $name, ";")]
-            ///
-            #[doc = concat!("assert_eq!(", $name, "::from(['a'..'d', 'x'..'z']).covered(), Some(5));")]
-            #[doc = concat!("let open = ", $name, "::from(7u8..);")]
-            /// assert_eq!(open.covered(), None);
-            /// assert_eq!(open.rank(&u8::MAX) + 1, 249);
-            /// ```
+            #[doc = example!(ends $name;
+                "assert_eq!(" $name "::from(['a'..'d', 'x'..'z']).covered(), Some(5));",
+                "let open = " $name "::from(7u8..);",
+                "assert_eq!(open.covered(), None);",
+                "assert_eq!(open.rank(&u8::MAX) + 1, 249);",
+            )]
             #[doc(alias = "count")]
             #[must_use]
             pub fn covered(&self) -> Option<u128>
@@ -377,15 +314,11 @@ macro_rules! questions {
             ///
             /// It takes time for each boundary below `value`.
             ///
-            /// # Examples
-            ///
-            /// ```
-            #[doc = concat!("use range_sets::", $name, ";")]
-            ///
-            #[doc = concat!("let set = ", $name, "::from([3..5, 9..12]);")]
-            /// assert_eq!(set.rank(&4), 1);
-            /// assert_eq!(set.rank(&12), 5);
-            /// ```
+            #[doc = example!(ends $name;
+                "let set = " $name "::from([3..5, 9..12]);",
+                "assert_eq!(set.rank(&4), 1);",
+                "assert_eq!(set.rank(&12), 5);",
+            )]
             #[must_use]
             pub fn rank(&self, value: &T) -> u128
             where
@@ -399,15 +332,11 @@ macro_rules! questions {
             ///
             /// It takes time for each boundary up to the result.
             ///
-            /// # Examples
-            ///
-            /// ```
-            #[doc = concat!("use range_sets::", $name, ";")]
-            ///
-            #[doc = concat!("let set = ", $name, "::from([3u8..5, 9..12]);")]
-            /// assert_eq!(set.select(2), Some(9));
-            /// assert_eq!(set.select(5), None);
-            /// ```
+            #[doc = example!(ends $name;
+                "let set = " $name "::from([3u8..5, 9..12]);",
+                "assert_eq!(set.select(2), Some(9));",
+                "assert_eq!(set.select(5), None);",
+            )]
             #[must_use]
             pub fn select(&self, k: u128) -> Option<T>
             where
@@ -423,18 +352,14 @@ macro_rules! questions {
             /// value of a type without numbers below it. It is `None` if there is none, or if
             /// `align` is 0. It takes time for each boundary up to the result.
             ///
-            /// # Examples
-            ///
-            /// ```
-            #[doc = concat!("use range_sets::", $name, ";")]
-            ///
-            #[doc = concat!("let used = ", $name, "::from([0u64..10, 80..128]);")]
-            /// assert_eq!(used.first_fit_aligned(0..4096, 16, 16), Some(16));
-            /// assert_eq!(used.first_fit_aligned(0..4096, 16, 0), None);
-            ///
-            #[doc = concat!("let busy = ", $name, "::from(-40..-31);")]
-            /// assert_eq!(busy.first_fit_aligned(-40..60, 30, 15), Some(-30));
-            /// ```
+            #[doc = example!(ends $name;
+                "let used = " $name "::from([0u64..10, 80..128]);",
+                "assert_eq!(used.first_fit_aligned(0..4096, 16, 16), Some(16));",
+                "assert_eq!(used.first_fit_aligned(0..4096, 16, 0), None);",
+                "",
+                "let busy = " $name "::from(-40..-31);",
+                "assert_eq!(busy.first_fit_aligned(-40..60, 30, 15), Some(-30));",
+            )]
             #[must_use]
             pub fn first_fit_aligned(
                 &self,
@@ -455,16 +380,12 @@ macro_rules! questions {
             /// It is `None` if there is no such stretch, and for a `len` of 0 the end of a range that
             /// isn't reversed. It takes time for each boundary down to the result.
             ///
-            /// # Examples
-            ///
-            /// ```
-            #[doc = concat!("use range_sets::", $name, ";")]
-            ///
-            #[doc = concat!("let used = ", $name, "::from([0u64..64, 80..128]);")]
-            /// assert_eq!(used.last_fit(0..140, 10), Some(130));
-            /// assert_eq!(used.last_fit(0..140, 16), Some(64));
-            /// assert_eq!(used.last_fit(0..140, 20), None);
-            /// ```
+            #[doc = example!(ends $name;
+                "let used = " $name "::from([0u64..64, 80..128]);",
+                "assert_eq!(used.last_fit(0..140, 10), Some(130));",
+                "assert_eq!(used.last_fit(0..140, 16), Some(64));",
+                "assert_eq!(used.last_fit(0..140, 20), None);",
+            )]
             #[must_use]
             pub fn last_fit(&self, within: impl Ended<T>, len: T) -> Option<T>
             where
@@ -479,15 +400,11 @@ macro_rules! questions {
             /// It is `None` if there are no such values, and for a `count` of 0 the start of a
             /// range that isn't reversed. It takes time for each boundary up to the result.
             ///
-            /// # Examples
-            ///
-            /// ```
-            #[doc = concat!("use range_sets::", $name, ";")]
-            ///
-            #[doc = concat!("let free = ", $name, "::from([0u64..10, 80..128]);")]
-            /// assert_eq!(free.first_run(0..4096, 16), Some(80));
-            /// assert_eq!(free.first_run(0..4096, 49), None);
-            /// ```
+            #[doc = example!(ends $name;
+                "let free = " $name "::from([0u64..10, 80..128]);",
+                "assert_eq!(free.first_run(0..4096, 16), Some(80));",
+                "assert_eq!(free.first_run(0..4096, 49), None);",
+            )]
             #[must_use]
             pub fn first_run(&self, within: impl Ended<T>, count: u128) -> Option<T>
             where

@@ -14,14 +14,8 @@ macro_rules! both_forms {
             must_use,
             // `$errors`: the macro that writes the documentation of errors.
             no_errors,
-            // `$at`: where an example finds the types.
-            "range_sets",
             // `$from`: the call by which an example makes a set of a range.
-            "from",
-            // `$ok`: the end of a line of an example that may fail.
-            ";",
-            // `$end`: the last line of such an example.
-            ""
+            "from"
         }
         $calls! {
             fails,
@@ -30,10 +24,7 @@ macro_rules! both_forms {
             // calls a second `must_use` one too many.
             cfg_attr(any(), must_use),
             errors,
-            "range_sets::fallible",
-            "try_from",
-            "?;",
-            "# Ok::<(), range_sets::fallible::AllocError>(())"
+            "try_from"
         }
     };
 }
@@ -58,51 +49,67 @@ macro_rules! no_errors {
     };
 }
 
-/// Writes an example of a call, with what it uses first. A line that ends in `?` may fail, which is
-/// an error in `fallible`. Others end in a comma: with `=>` they say what a set is as a text, and with
-/// `=` what `{:?}` makes of a map.
+/// Writes the section of the documentation with an example, as [`code`] does.
 macro_rules! example {
-    (ends $($example:tt)*) => {
-        example!(@ "range_sets", ";", "": $($example)*)
+    ($($code:tt)*) => {
+        concat!("# Examples\n\n", code!($($code)*))
     };
-    (fails $($example:tt)*) => {
-        example!(
-            @ "range_sets::fallible", "?;", "# Ok::<(), range_sets::fallible::AllocError>(())":
-            $($example)*
+}
+
+/// Writes the code of an example, with what it uses first. A line that ends in `?` may fail, which is
+/// an error in `fallible`. Others end in a comma: with `=>` they say what a set is as a text, and with
+/// `=` what `{:?}` makes of a map. A last line `Ok` has the type of other errors.
+macro_rules! code {
+    (ends $($code:tt)*) => {
+        code!(@ "range_sets", ";", "": $($code)*)
+    };
+    (fails $($code:tt)*) => {
+        code!(
+            @ "range_sets::fallible", "?;", "\n# Ok::<(), range_sets::fallible::AllocError>(())":
+            $($code)*
+        )
+    };
+    (tracks $ok:literal $($code:tt)*) => {
+        code!(
+            @ "range_sets::tracker", $ok, "\n# Ok::<(), range_sets::tracker::TrackError>(())":
+            $($code)*
         )
     };
     (
         @ $at:literal, $ok:literal, $end:literal:
-        $of:literal $(, $used:literal)*; $($lines:tt)*
+        $($of:literal)+ $(, $used:literal)*; $($lines:tt)*
     ) => {
         concat!(
-            "# Examples\n\n```\nuse ", $at, "::", $of, ";\n", $("use ", $used, ";\n",)* "\n",
-            example!(@lines $ok $($lines)*), $end, "\n```"
+            "```\nuse ", $at, "::", $($of,)+ ";\n", $("use ", $used, ";\n",)*
+            code!(@lines $ok, $end: $($lines)*), "\n```"
         )
     };
-    (@lines $ok:literal $($part:literal)+ ? $($lines:tt)*) => {
-        concat!($($part,)+ $ok, "\n", example!(@lines $ok $($lines)*))
+    (@lines $ok:literal, $end:literal: $($part:literal)+ ? $($lines:tt)*) => {
+        concat!("\n", $($part,)+ $ok, code!(@lines $ok, $end: $($lines)*))
     };
-    (@lines $ok:literal [$($part:tt)+] ? $($lines:tt)*) => {
-        concat!($($part)+, $ok, "\n", example!(@lines $ok $($lines)*))
+    (@lines $ok:literal, $end:literal: [$($part:tt)+] ? $($lines:tt)*) => {
+        concat!("\n", $($part)+, $ok, code!(@lines $ok, $end: $($lines)*))
     };
-    (@lines $ok:literal $($part:literal)+, $($lines:tt)*) => {
-        concat!($($part,)+ "\n", example!(@lines $ok $($lines)*))
+    (@lines $ok:literal, $end:literal: $($part:literal)+, $($lines:tt)*) => {
+        concat!("\n", $($part,)+ code!(@lines $ok, $end: $($lines)*))
     };
-    (@lines $ok:literal $set:literal => $text:literal, $($lines:tt)*) => {
+    (@lines $ok:literal, $end:literal: $set:literal => $text:literal, $($lines:tt)*) => {
         concat!(
-            "assert_eq!(", $set, ".to_string(), ", stringify!($text), ");\n",
-            example!(@lines $ok $($lines)*)
+            "\nassert_eq!(", $set, ".to_string(), ", stringify!($text), ");",
+            code!(@lines $ok, $end: $($lines)*)
         )
     };
-    (@lines $ok:literal $map:literal = $shown:literal, $($lines:tt)*) => {
+    (@lines $ok:literal, $end:literal: $map:literal = $shown:literal, $($lines:tt)*) => {
         concat!(
-            "assert_eq!(format!(\"{", $map, ":?}\"), ", stringify!($shown), ");\n",
-            example!(@lines $ok $($lines)*)
+            "\nassert_eq!(format!(\"{", $map, ":?}\"), ", stringify!($shown), ");",
+            code!(@lines $ok, $end: $($lines)*)
         )
     };
-    (@lines $ok:literal) => {
-        ""
+    (@lines $ok:literal, $end:literal: Ok $error:literal) => {
+        concat!("\n# Ok::<(), ", $error, ">(())")
+    };
+    (@lines $ok:literal, $end:literal:) => {
+        $end
     };
 }
 
@@ -111,7 +118,7 @@ macro_rules! example {
 /// what `0..10` then is.
 macro_rules! operations_with {
     (
-        $Set:literal, $form:ident, $errors:ident, $at:literal, $ok:literal, $end:literal:
+        $Set:literal, $form:ident, $errors:ident:
         $(
             $(#[$does:meta])*
             pub fn $call:ident($self:ident, $that:ident), $value:literal => $after:literal $body:block
@@ -121,17 +128,11 @@ macro_rules! operations_with {
         ///
         #[doc = $errors!("If memory runs out or a copy of a boundary fails. The set is then as it \
             was.")]
-        /// # Examples
-        ///
-        /// ```
-        #[doc = concat!("use ", $at, "::", $Set, ";")]
-        /// use range_sets::RangeSetRef;
-        ///
-        #[doc = concat!("let mut set = ", $Set, "::from_ranges([0..10])", $ok)]
-        #[doc = concat!("set.", stringify!($call), "(RangeSetRef::single(&", $value, "))", $ok)]
-        #[doc = concat!("assert_eq!(set.to_string(), ", stringify!($after), ");")]
-        #[doc = $end]
-        /// ```
+        #[doc = example!($form $Set, "range_sets::RangeSetRef";
+            "let mut set = " $Set "::from_ranges([0..10])"?
+            ["set.", stringify!($call), "(RangeSetRef::single(&", $value, "))"]?
+            "set" => $after,
+        )]
         pub fn $call(&mut $self, $that: &RangeSetRef<T>) -> $form::Returned<()> $body
     )*};
 }

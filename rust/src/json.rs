@@ -39,11 +39,9 @@ impl<T: Serialize> Serialize for RangeSetRef<T> {
     }
 }
 
+#[rustfmt::skip]
 macro_rules! sequences {
-    (
-        $form:ident, $Clone:ident, $must_use:meta, $errors:ident,
-        $at:literal, $from:literal, $ok:literal, $end:literal
-    ) => {
+    ($form:ident, $Clone:ident, $must_use:meta, $errors:ident, $from:literal) => {
         /// A sequence of the boundaries.
         impl<T: Serialize, A: Array<Item = T>> Serialize for $form::RangeSet<A> {
             fn serialize<S: Serializer>(&self, serializer: S) -> Result<S::Ok, S::Error> {
@@ -58,19 +56,15 @@ macro_rules! sequences {
         /// `None` for boundaries that aren't strictly sorted.
         ///
         #[doc = $errors!("Those of the format, and one if memory for the set runs out.")]
-        /// # Examples
-        ///
-        /// ```
-        #[doc = concat!("use ", $at, "::RangeSet2;")]
-        ///
-        /// let set: RangeSet2<i64> = serde_json::from_str("[20, 0, 10, 0]")?;
-        /// assert_eq!(set.to_string(), "0..10, 20..");
-        /// assert_eq!(serde_json::to_string(&set)?, "[0,10,20]");
-        ///
-        /// let error = serde_json::from_str::<RangeSet2<i64>>("[0, x]").unwrap_err();
-        /// assert_eq!((error.line(), error.column()), (1, 5));
-        /// # Ok::<(), serde_json::Error>(())
-        /// ```
+        #[doc = example!($form "RangeSet2";
+            r#"let set: RangeSet2<i64> = serde_json::from_str("[20, 0, 10, 0]")?;"#,
+            "set" => "0..10, 20..",
+            r#"assert_eq!(serde_json::to_string(&set)?, "[0,10,20]");"#,
+            "",
+            r#"let error = serde_json::from_str::<RangeSet2<i64>>("[0, x]").unwrap_err();"#,
+            "assert_eq!((error.line(), error.column()), (1, 5));",
+            Ok "serde_json::Error"
+        )]
         impl<'de, T: Deserialize<'de> + Ord, A: Array<Item = T>> Deserialize<'de>
             for $form::RangeSet<A>
         {
@@ -94,19 +88,14 @@ macro_rules! sequences {
         /// that view.
         ///
         #[doc = $errors!("Those of the format, and one if memory for the set runs out.")]
-        /// # Examples
-        ///
-        /// ```
-        #[doc = concat!("use ", $at, "::ChunkedRangeSet;")]
-        /// use range_sets::RangeSetRef;
-        ///
-        /// let set: ChunkedRangeSet<i64> = serde_json::from_str("[20, 0, 10, 0]")?;
-        /// assert_eq!(set.to_string(), "0..10, 20..");
-        ///
-        /// let list: Vec<i64> = serde_json::from_str("[20, 0, 10, 0]")?;
-        /// assert!(RangeSetRef::new(&list).is_none());
-        /// # Ok::<(), serde_json::Error>(())
-        /// ```
+        #[doc = example!($form "ChunkedRangeSet", "range_sets::RangeSetRef";
+            r#"let set: ChunkedRangeSet<i64> = serde_json::from_str("[20, 0, 10, 0]")?;"#,
+            "set" => "0..10, 20..",
+            "",
+            r#"let list: Vec<i64> = serde_json::from_str("[20, 0, 10, 0]")?;"#,
+            "assert!(RangeSetRef::new(&list).is_none());",
+            Ok "serde_json::Error"
+        )]
         impl<'de, T: Deserialize<'de> + Ord> Deserialize<'de> for $form::ChunkedRangeSet<T> {
             fn deserialize<D: Deserializer<'de>>(deserializer: D) -> Result<Self, D::Error> {
                 let set = $form::RangeSet::<[T; 2]>::deserialize(deserializer)?;

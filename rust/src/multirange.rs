@@ -69,10 +69,7 @@ impl From<AllocError> for MultirangeError {
 }
 
 macro_rules! multiranges {
-    (
-        $form:ident, $Clone:ident, $must_use:meta, $errors:ident,
-        $at:literal, $from:literal, $ok:literal, $end:literal
-    ) => {
+    ($form:ident, $Clone:ident, $must_use:meta, $errors:ident, $from:literal) => {
         impl<T: WholeNumber + RangeSetEntry + NextValue, A: Array<Item = T>> $form::RangeSet<A> {
             /// Reads a multirange of PostgreSQL, or one range, as the server writes it.
             ///
@@ -84,15 +81,11 @@ macro_rules! multiranges {
             /// If the text is no multirange of whole numbers, a number doesn't fit the type, or in
             /// [`fallible`](crate::fallible) memory runs out.
             ///
-            /// # Examples
-            ///
-            /// ```
-            #[doc = concat!("use ", $at, "::RangeSet2;")]
-            ///
-            /// let hours = RangeSet2::<i32>::from_multirange("{[9,12),(12,17]}")?;
-            /// assert_eq!(hours.to_string(), "9..12, 13..18");
-            /// # Ok::<(), range_sets::MultirangeError>(())
-            /// ```
+            #[doc = example!($form "RangeSet2";
+                r#"let hours = RangeSet2::<i32>::from_multirange("{[9,12),(12,17]}")?;"#,
+                "hours" => "9..12, 13..18",
+                Ok "range_sets::MultirangeError"
+            )]
             pub fn from_multirange(text: &str) -> Result<Self, MultirangeError> {
                 let list = read::<A::List>(text, $form::SORTING)?;
                 $form::or_error::<T, _, _>(list, Into::into).map(Self::of_list)
@@ -106,15 +99,11 @@ macro_rules! multiranges {
             ///
             /// Those of a `RangeSet`.
             ///
-            /// # Examples
-            ///
-            /// ```
-            #[doc = concat!("use ", $at, "::ChunkedRangeSet;")]
-            ///
-            /// let hours = ChunkedRangeSet::<i32>::from_multirange("{[9,12),(12,17]}")?;
-            /// assert_eq!(hours.to_string(), "9..12, 13..18");
-            /// # Ok::<(), range_sets::MultirangeError>(())
-            /// ```
+            #[doc = example!($form "ChunkedRangeSet";
+                r#"let hours = ChunkedRangeSet::<i32>::from_multirange("{[9,12),(12,17]}")?;"#,
+                "hours" => "9..12, 13..18",
+                Ok "range_sets::MultirangeError"
+            )]
             pub fn from_multirange(text: &str) -> Result<Self, MultirangeError> {
                 let list = $form::RangeSet::<[T; 2]>::from_multirange(text)?.list;
                 $form::or_error::<T, _, _>(list.into_chunks(), Into::into).map(Self::of_proved)

@@ -84,6 +84,7 @@ macro_rules! between {
 }
 
 /// `$name` is the set of the examples.
+#[rustfmt::skip]
 macro_rules! relations {
     ($Set:ident, $name:literal) => {
         /// If one of the sets is in chunks, these make one search in the set with more boundaries
@@ -91,15 +92,11 @@ macro_rules! relations {
         impl<T: Ord> $Set<T> {
             /// Returns `true` if the sets have a member in common. It stops at the first one.
             ///
-            /// # Examples
-            ///
-            /// ```
-            #[doc = concat!("use range_sets::{ChunkedRangeSet, RangeSetRef, ", $name, " as Set};")]
-            ///
-            /// let day = Set::from(9..17);
-            /// assert!(day.intersects(RangeSetRef::single(&16)));
-            /// assert!(!day.intersects(&ChunkedRangeSet::from(17..)));
-            /// ```
+            #[doc = example!(ends "{ChunkedRangeSet, RangeSetRef, " $name " as Set}";
+                "let day = Set::from(9..17);",
+                "assert!(day.intersects(RangeSetRef::single(&16)));",
+                "assert!(!day.intersects(&ChunkedRangeSet::from(17..)));",
+            )]
             #[must_use]
             pub fn intersects(&self, that: &(impl AnySet<T> + ?Sized)) -> bool {
                 between!(
@@ -113,14 +110,10 @@ macro_rules! relations {
             /// Returns `true` if the sets have no member in common. It stops at the first common
             /// one.
             ///
-            /// # Examples
-            ///
-            /// ```
-            #[doc = concat!("use range_sets::{RangeSetRef, ", $name, "};")]
-            ///
-            #[doc = concat!("let day = ", $name, "::from(9..17);")]
-            /// assert!(day.is_disjoint(RangeSetRef::single(&17)));
-            /// ```
+            #[doc = example!(ends "{RangeSetRef, " $name "}";
+                "let day = " $name "::from(9..17);",
+                "assert!(day.is_disjoint(RangeSetRef::single(&17)));",
+            )]
             #[must_use]
             pub fn is_disjoint(&self, that: &(impl AnySet<T> + ?Sized)) -> bool {
                 !self.intersects(that)
@@ -129,16 +122,12 @@ macro_rules! relations {
             /// Returns `true` if every member of this set is one of `that`. A set is a subset of
             /// itself.
             ///
-            /// # Examples
-            ///
-            /// ```
-            #[doc = concat!("use range_sets::", $name, ";")]
-            ///
-            #[doc = concat!("let day = ", $name, "::from(9..17);")]
-            #[doc = concat!("let noon = ", $name, "::from(12..13);")]
-            /// assert!(noon.is_subset(&day));
-            /// assert!(!day.is_subset(&noon));
-            /// ```
+            #[doc = example!(ends $name;
+                "let day = " $name "::from(9..17);",
+                "let noon = " $name "::from(12..13);",
+                "assert!(noon.is_subset(&day));",
+                "assert!(!day.is_subset(&noon));",
+            )]
             #[must_use]
             pub fn is_subset(&self, that: &(impl AnySet<T> + ?Sized)) -> bool {
                 between!(
@@ -152,14 +141,10 @@ macro_rules! relations {
             /// Returns `true` if every member of `that` is one of this set. A set is a superset of
             /// itself.
             ///
-            /// # Examples
-            ///
-            /// ```
-            #[doc = concat!("use range_sets::", $name, ";")]
-            ///
-            #[doc = concat!("let day = ", $name, "::from(9..17);")]
-            #[doc = concat!("assert!(day.is_superset(&", $name, "::from(12..13)));")]
-            /// ```
+            #[doc = example!(ends $name;
+                "let day = " $name "::from(9..17);",
+                "assert!(day.is_superset(&" $name "::from(12..13)));",
+            )]
             #[must_use]
             pub fn is_superset(&self, that: &(impl AnySet<T> + ?Sized)) -> bool {
                 between!(
@@ -177,15 +162,11 @@ macro_rules! relations {
             /// Panics if the operation has members where both sets have none, as
             /// [`merge_len`](Self::merge_len) does.
             ///
-            /// # Examples
-            ///
-            /// ```
-            #[doc = concat!("use range_sets::{Connective, RangeSetRef, ", $name, "};")]
-            ///
-            #[doc = concat!("let a = ", $name, "::from(0..10);")]
-            /// assert!(a.merge_test(RangeSetRef::empty(), Connective::DIFFERENCE));
-            /// assert!(!a.merge_test(&a, Connective::SYMMETRIC_DIFFERENCE));
-            /// ```
+            #[doc = example!(ends "{Connective, RangeSetRef, " $name "}";
+                "let a = " $name "::from(0..10);",
+                "assert!(a.merge_test(RangeSetRef::empty(), Connective::DIFFERENCE));",
+                "assert!(!a.merge_test(&a, Connective::SYMMETRIC_DIFFERENCE));",
+            )]
             #[must_use]
             pub fn merge_test(&self, that: &(impl AnySet<T> + ?Sized), op: Connective) -> bool {
                 check_merge(self, that, op);
@@ -206,16 +187,12 @@ macro_rules! relations {
             /// boundaries without a least value. Panics if both sets together have more boundaries
             /// than a `usize` counts.
             ///
-            /// # Examples
-            ///
-            /// ```
-            #[doc = concat!("use range_sets::{Connective, RangeSetRef, ", $name, "};")]
-            ///
-            #[doc = concat!("let a = ", $name, "::from(0..10);")]
-            /// let b = RangeSetRef::new(&[5, 15]).unwrap();
-            /// assert_eq!(a.merge_len(b, Connective::UNION), 2);
-            /// assert_eq!(a.merge_len(b, Connective::SYMMETRIC_DIFFERENCE), 4);
-            /// ```
+            #[doc = example!(ends "{Connective, RangeSetRef, " $name "}";
+                "let a = " $name "::from(0..10);",
+                "let b = RangeSetRef::new(&[5, 15]).unwrap();",
+                "assert_eq!(a.merge_len(b, Connective::UNION), 2);",
+                "assert_eq!(a.merge_len(b, Connective::SYMMETRIC_DIFFERENCE), 4);",
+            )]
             #[must_use]
             pub fn merge_len(&self, that: &(impl AnySet<T> + ?Sized), op: Connective) -> usize {
                 check_merge(self, that, op);

@@ -12,10 +12,7 @@ use crate::range_set::{intersection_of_sets, union_of_sets, RangeSetRef};
 use crate::support::{Global, SmallVec};
 
 macro_rules! changes {
-    (
-        $form:ident, $Clone:ident, $must_use:meta, $errors:ident,
-        $at:literal, $from:literal, $ok:literal, $end:literal
-    ) => {
+    ($form:ident, $Clone:ident, $must_use:meta, $errors:ident, $from:literal) => {
         impl<T: Ord> $form::ChunkedRangeSet<T> {
             /// Returns the empty set. It takes no memory.
             ///

@@ -12,15 +12,12 @@ use crate::forms::{ends, fails};
 use crate::range_set::RangeSetRef;
 
 macro_rules! operations {
-    (
-        $form:ident, $Clone:ident, $must_use:meta, $errors:ident,
-        $at:literal, $from:literal, $ok:literal, $end:literal
-    ) => {
+    ($form:ident, $Clone:ident, $must_use:meta, $errors:ident, $from:literal) => {
         /// These go over the boundaries between the first one of `that` and its last one, or up to
         /// the end if `that` has a range without an end, and copy what stays of them. If `that` has
         /// few ranges, those between two that lie far apart stay where they are.
         impl<T: Ord + $Clone> $form::ChunkedRangeSet<T> {
-            operations_with! { "ChunkedRangeSet", $form, $errors, $at, $ok, $end:
+            operations_with! { "ChunkedRangeSet", $form, $errors:
             /// Adds the members of `that`.
             pub fn union_with(self, that), 20 => "0..10, 20.." {
                 self.add_members_of(that)

@@ -12,10 +12,7 @@ use core::mem;
 
 #[rustfmt::skip]
 macro_rules! taking {
-    (
-        $form:ident, $Clone:ident, $must_use:meta, $errors:ident,
-        $at:literal, $from:literal, $ok:literal, $end:literal
-    ) => {
+    ($form:ident, $Clone:ident, $must_use:meta, $errors:ident, $from:literal) => {
         impl<T: Ord> $form::ChunkedRangeSet<T> {
             /// Keeps the ranges that `keep` returns `true` for, and removes the others. It is
             /// called once for each range, from the lowest on. It takes no memory.

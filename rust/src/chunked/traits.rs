@@ -21,11 +21,9 @@ use core::ops::{
 };
 use core::str::FromStr;
 
+#[rustfmt::skip]
 macro_rules! traits {
-    (
-        $form:ident, $Clone:ident, $must_use:meta, $errors:ident,
-        $at:literal, $from:literal, $ok:literal, $end:literal
-    ) => {
+    ($form:ident, $Clone:ident, $must_use:meta, $errors:ident, $from:literal) => {
         /// The empty set.
         impl<T: Ord> Default for $form::ChunkedRangeSet<T> {
             fn default() -> Self {
@@ -39,15 +37,11 @@ macro_rules! traits {
         ///
         /// Those of a `RangeSet`.
         ///
-        /// # Examples
-        ///
-        /// ```
-        #[doc = concat!("use ", $at, "::ChunkedRangeSet;")]
-        ///
-        /// let set: ChunkedRangeSet<u64> = "20.., 0..10".parse()?;
-        /// assert_eq!(set.to_string(), "0..10, 20..");
-        /// # Ok::<(), range_sets::ParseError>(())
-        /// ```
+        #[doc = example!($form "ChunkedRangeSet";
+            r#"let set: ChunkedRangeSet<u64> = "20.., 0..10".parse()?;"#,
+            "set" => "0..10, 20..",
+            Ok "range_sets::ParseError"
+        )]
         impl<T: EntryClone + TextEntry> FromStr for $form::ChunkedRangeSet<T> {
             type Err = ParseError;
 

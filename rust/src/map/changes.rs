@@ -11,7 +11,7 @@ use crate::memory::out_of_memory;
 macro_rules! changes {
     (
         $form:ident, $Clone:ident, $Value:ident, $must_use:meta, $errors:ident,
-        $at:literal, $from:literal, $of_pairs:literal, $returned:ident, $ok:literal, $end:literal
+        $from:literal, $of_pairs:literal, $returned:ident
     ) => {
         impl<K: Ord, V: Eq + $Value> $form::RangeMap<K, V> {
             /// Gives each key of a range [of any kind](AnyRange) the value, in place of the one

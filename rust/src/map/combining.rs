@@ -170,7 +170,7 @@ impl<K: Ord, C: Copies<usize>> Map<K, usize, C> {
 macro_rules! operations {
     (
         $form:ident, $Clone:ident, $Value:ident, $must_use:meta, $errors:ident,
-        $at:literal, $from:literal, $of_pairs:literal, $returned:ident, $ok:literal, $end:literal
+        $from:literal, $of_pairs:literal, $returned:ident
     ) => {
         /// These make maps and sets of maps, and copy the keys.
         impl<K: Ord + $Clone, V: Eq + $Value> $form::RangeMap<K, V> {

@@ -166,7 +166,7 @@ impl<K: Ord, V: Eq, C: Copies<V>> Map<K, V, C> {
 macro_rules! composed {
     (
         $form:ident, $Clone:ident, $Value:ident, $must_use:meta, $errors:ident,
-        $at:literal, $from:literal, $of_pairs:literal, $returned:ident, $ok:literal, $end:literal
+        $from:literal, $of_pairs:literal, $returned:ident
     ) => {
         /// These copy the keys and values that they take out or change.
         impl<K: Ord + $Clone, V: Eq + $Value> $form::RangeMap<K, V> {

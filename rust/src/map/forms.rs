@@ -15,18 +15,12 @@ macro_rules! both_maps {
             must_use,
             // `$errors`: the macro that writes the documentation of errors.
             no_errors,
-            // `$at`: where an example finds the types.
-            "range_sets",
             // `$from`: the call by which an example makes a set of a range.
             "from",
             // `$of_pairs`: the call by which an example makes a map of ranges and values.
             "from_iter",
             // `$returned`: the macro that writes what the function of an example returns.
-            as_it_is,
-            // `$ok`: the end of a line of an example that may fail.
-            ";",
-            // `$end`: the last line of such an example.
-            ""
+            as_it_is
         }
         $calls! {
             fails,
@@ -35,12 +29,9 @@ macro_rules! both_maps {
             // No attribute, as in `both_forms`.
             cfg_attr(any(), must_use),
             errors,
-            "range_sets::fallible",
             "try_from",
             "from_ranges",
-            in_ok,
-            "?;",
-            "# Ok::<(), range_sets::fallible::AllocError>(())"
+            in_ok
         }
     };
 }

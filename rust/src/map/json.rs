@@ -26,23 +26,19 @@ impl<K: Ord + Serialize, V: Eq + Serialize, C> Serialize for Map<K, V, C> {
 macro_rules! triples {
     (
         $form:ident, $Clone:ident, $Value:ident, $must_use:meta, $errors:ident,
-        $at:literal, $from:literal, $of_pairs:literal, $returned:ident, $ok:literal, $end:literal
+        $from:literal, $of_pairs:literal, $returned:ident
     ) => {
         /// Reads a sequence of triples in any order. Where ranges overlap the later one's value
         /// holds, and a reversed range is empty.
         ///
         #[doc = $errors!("Those of the format, and one if memory for the map runs out.")]
-        /// # Examples
-        ///
-        /// ```
-        #[doc = concat!("use ", $at, "::RangeMap;")]
-        ///
-        /// let text = r#"[[20,null,"Eve"],[9,12,"Ada"]]"#;
-        /// let bookings: RangeMap<u8, String> = serde_json::from_str(text)?;
-        /// assert_eq!(bookings[&255], "Eve");
-        /// assert_eq!(serde_json::to_string(&bookings)?, r#"[[9,12,"Ada"],[20,null,"Eve"]]"#);
-        /// # Ok::<(), serde_json::Error>(())
-        /// ```
+        #[doc = example!($form "RangeMap";
+            r##"let text = r#"[[20,null,"Eve"],[9,12,"Ada"]]"#;"##,
+            "let bookings: RangeMap<u8, String> = serde_json::from_str(text)?;",
+            r#"assert_eq!(bookings[&255], "Eve");"#,
+            r##"assert_eq!(serde_json::to_string(&bookings)?, r#"[[9,12,"Ada"],[20,null,"Eve"]]"#);"##,
+            Ok "serde_json::Error"
+        )]
         impl<'de, K, V> Deserialize<'de> for $form::RangeMap<K, V>
         where
             K: Deserialize<'de> + Ord,

@@ -12,10 +12,7 @@ use crate::view::RangeSetRef;
 use smallvec::SmallVec;
 
 macro_rules! constructors {
-    (
-        $form:ident, $Clone:ident, $must_use:meta, $errors:ident,
-        $at:literal, $from:literal, $ok:literal, $end:literal
-    ) => {
+    ($form:ident, $Clone:ident, $must_use:meta, $errors:ident, $from:literal) => {
         impl<T, A: Array<Item = T>> $form::RangeSet<A> {
             /// Returns the set with these boundaries, or `None` if they aren't strictly sorted. It
             /// takes no memory.

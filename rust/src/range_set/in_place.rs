@@ -9,10 +9,7 @@ use crate::generated::range_merge::{DiffOp, IntersectionOp, MergeOperation, Unio
 use crate::view::RangeSetRef;
 
 macro_rules! changes {
-    (
-        $form:ident, $Clone:ident, $must_use:meta, $errors:ident,
-        $at:literal, $from:literal, $ok:literal, $end:literal
-    ) => {
+    ($form:ident, $Clone:ident, $must_use:meta, $errors:ident, $from:literal) => {
         impl<T: Ord, A: Array<Item = T>> $form::RangeSet<A> {
             /// Adds the values of a range [of any kind](AnyRange). An empty or a reversed range
             /// changes nothing.
@@ -85,7 +82,7 @@ macro_rules! changes {
 
         /// These make as many comparisons as the operations that make a new set.
         impl<T: Ord + $Clone, A: Array<Item = T>> $form::RangeSet<A> {
-            operations_with! { "RangeSet2", $form, $errors, $at, $ok, $end:
+            operations_with! { "RangeSet2", $form, $errors:
             /// Adds the members of `that`.
             pub fn union_with(self, that), 20 => "0..10, 20.." {
                 self.merge_with(that, &UnionOp)

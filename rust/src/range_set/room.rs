@@ -4,10 +4,7 @@ use crate::array::{Array, List};
 use crate::forms::{ends, fails};
 
 macro_rules! room {
-    (
-        $form:ident, $Clone:ident, $must_use:meta, $errors:ident,
-        $at:literal, $from:literal, $ok:literal, $end:literal
-    ) => {
+    ($form:ident, $Clone:ident, $must_use:meta, $errors:ident, $from:literal) => {
         impl<T, A: Array<Item = T>> $form::RangeSet<A> {
             /// Returns an empty set with room for `room` boundaries, two for each range. It may
             /// have room for more.

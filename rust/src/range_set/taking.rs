@@ -9,10 +9,7 @@ use core::mem;
 use core::slice;
 
 macro_rules! taking {
-    (
-        $form:ident, $Clone:ident, $must_use:meta, $errors:ident,
-        $at:literal, $from:literal, $ok:literal, $end:literal
-    ) => {
+    ($form:ident, $Clone:ident, $must_use:meta, $errors:ident, $from:literal) => {
         impl<T, A: Array<Item = T>> $form::RangeSet<A> {
             /// Takes all values out. The room stays.
             ///
@@ -58,14 +55,11 @@ macro_rules! taking {
             ///
             /// Only the gaps of two hours or more:
             ///
-            /// ```
-            #[doc = concat!("use ", $at, "::RangeSet2;")]
-            ///
-            #[doc = concat!("let mut free = RangeSet2::", $from, "([9..10, 11..13, 14..17])", $ok)]
-            /// free.retain(|gap| gap.end().map_or(true, |end| **end - **gap.start() >= 2));
-            /// assert_eq!(free.to_string(), "11..13, 14..17");
-            #[doc = $end]
-            /// ```
+            #[doc = code!($form "RangeSet2";
+                "let mut free = RangeSet2::" $from "([9..10, 11..13, 14..17])"?
+                "free.retain(|gap| gap.end().map_or(true, |end| **end - **gap.start() >= 2));",
+                "free" => "11..13, 14..17",
+            )]
             pub fn retain(&mut self, keep: impl FnMut(RangeSetRange<&T>) -> bool) {
                 self.list.retain(keep);
             }

@@ -18,10 +18,7 @@ use core::ops::Deref;
 use core::str::FromStr;
 
 macro_rules! traits {
-    (
-        $form:ident, $Clone:ident, $must_use:meta, $errors:ident,
-        $at:literal, $from:literal, $ok:literal, $end:literal
-    ) => {
+    ($form:ident, $Clone:ident, $must_use:meta, $errors:ident, $from:literal) => {
         /// The empty set.
         impl<T, A: Array<Item = T>> Default for $form::RangeSet<A> {
             fn default() -> Self {
@@ -125,32 +122,24 @@ macro_rules! traits {
         /// there; or it says that a number is past those of its type. In
         /// [`fallible`](crate::fallible) it may be [`ParseError::OutOfMemory`].
         ///
-        /// # Examples
-        ///
-        /// ```
-        #[doc = concat!("use ", $at, "::RangeSet2;")]
-        /// use range_sets::{Expected, ParseError};
-        ///
-        /// let set: RangeSet2<u8> = " 20.., 0..10 ".parse()?;
-        /// assert_eq!(set.to_string(), "0..10, 20..");
-        ///
-        /// let error = "0..10; 20..".parse::<RangeSet2<u8>>().unwrap_err();
-        /// assert_eq!(error, ParseError::Malformed { at: 5, expected: Expected::Comma });
-        /// assert_eq!(error.to_string(), "a comma or the end was expected at byte 5");
-        /// # Ok::<(), ParseError>(())
-        /// ```
+        #[doc = example!($form "RangeSet2", "range_sets::{Expected, ParseError}";
+            r#"let set: RangeSet2<u8> = " 20.., 0..10 ".parse()?;"#,
+            "set" => "0..10, 20..",
+            "",
+            r#"let error = "0..10; 20..".parse::<RangeSet2<u8>>().unwrap_err();"#,
+            "assert_eq!(error, ParseError::Malformed { at: 5, expected: Expected::Comma });",
+            "error" => "a comma or the end was expected at byte 5",
+            Ok "ParseError"
+        )]
         ///
         /// A set is compared with sets of all sizes and with views, so beside `==` the type is
         /// named:
         ///
-        /// ```
-        #[doc = concat!("use ", $at, "::RangeSet2;")]
-        ///
-        #[doc = concat!("let set = RangeSet2::", $from, "(1..2)", $ok)]
-        /// assert_eq!(set, "1..2".parse::<RangeSet2<i32>>().unwrap());
-        /// assert_eq!("1..2".parse(), Ok(set));
-        #[doc = $end]
-        /// ```
+        #[doc = code!($form "RangeSet2";
+            "let set = RangeSet2::" $from "(1..2)"?
+            r#"assert_eq!(set, "1..2".parse::<RangeSet2<i32>>().unwrap());"#,
+            r#"assert_eq!("1..2".parse(), Ok(set));"#,
+        )]
         impl<T: EntryClone + TextEntry, A: Array<Item = T>> FromStr for $form::RangeSet<A> {
             type Err = ParseError;
 

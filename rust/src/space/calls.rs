@@ -17,10 +17,7 @@ use core::str::FromStr;
 
 #[rustfmt::skip]
 macro_rules! changes {
-    (
-        $form:ident, $Clone:ident, $must_use:meta, $errors:ident,
-        $at:literal, $from:literal, $ok:literal, $end:literal
-    ) => {
+    ($form:ident, $Clone:ident, $must_use:meta, $errors:ident, $from:literal) => {
         impl<T: Countable + Copy> $form::ChunkedSpace<T> {
             /// Returns the space where nothing is taken. It takes no memory.
             ///
@@ -244,15 +241,11 @@ macro_rules! changes {
         ///
         /// Those of a `RangeSet`.
         ///
-        /// # Examples
-        ///
-        /// ```
-        #[doc = concat!("use ", $at, "::ChunkedSpace;")]
-        ///
-        /// let mut used: ChunkedSpace<u64> = "0..64, 80..128".parse()?;
-        /// assert_eq!(used.first_fit(0..4096, 16), Some(64));
-        /// # Ok::<(), range_sets::ParseError>(())
-        /// ```
+        #[doc = example!($form "ChunkedSpace";
+            r#"let mut used: ChunkedSpace<u64> = "0..64, 80..128".parse()?;"#,
+            "assert_eq!(used.first_fit(0..4096, 16), Some(64));",
+            Ok "range_sets::ParseError"
+        )]
         impl<T: Countable + Copy + EntryClone + TextEntry> FromStr for $form::ChunkedSpace<T> {
             type Err = ParseError;
 

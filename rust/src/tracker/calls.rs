@@ -52,15 +52,10 @@ macro_rules! calls {
 
             /// Returns the limit: how many boundaries the tracker keeps at most.
             ///
-            /// # Examples
-            ///
-            /// ```
-            #[doc = concat!("use range_sets::tracker::", $name, ";")]
-            ///
-            #[doc = concat!("let file = ", $name, "::new(64)", $ok)]
-            /// assert_eq!(file.limit(), 64);
-            /// # Ok::<(), range_sets::tracker::TrackError>(())
-            /// ```
+            #[doc = example!(tracks $ok $name;
+                "let file = " $name "::new(64)"?
+                "assert_eq!(file.limit(), 64);",
+            )]
             #[must_use]
             pub fn limit(&self) -> usize {
                 self.0.limit
@@ -69,17 +64,12 @@ macro_rules! calls {
             /// Records that no offset is there. It is a [`forget`](Self::forget) of all, which
             /// needs no memory.
             ///
-            /// # Examples
-            ///
-            /// ```
-            #[doc = concat!("use range_sets::tracker::", $name, ";")]
-            ///
-            #[doc = concat!("let mut file = ", $name, "::new(4)", $ok)]
-            /// file.record(0..10)?;
-            /// file.clear();
-            /// assert_eq!((file.covered(), file.limit()), (0, 4));
-            /// # Ok::<(), range_sets::tracker::TrackError>(())
-            /// ```
+            #[doc = example!(tracks $ok $name;
+                "let mut file = " $name "::new(4)"?
+                "file.record(0..10)?;",
+                "file.clear();",
+                "assert_eq!((file.covered(), file.limit()), (0, 4));",
+            )]
             pub fn clear(&mut self) {
                 let forgotten = self.forget(..);
                 debug_assert!(
@@ -95,18 +85,13 @@ macro_rules! calls {
             ///
             /// If memory runs out.
             ///
-            /// # Examples
-            ///
-            /// ```
-            #[doc = concat!("use range_sets::tracker::", $name, ";")]
-            ///
-            #[doc = concat!("let mut file = ", $name, "::new(4)", $ok)]
-            /// file.record(0..10)?;
-            /// let before = file.try_clone()?;
-            /// file.record(20..30)?;
-            /// assert_eq!((before.covered(), file.covered()), (10, 20));
-            /// # Ok::<(), range_sets::tracker::TrackError>(())
-            /// ```
+            #[doc = example!(tracks $ok $name;
+                "let mut file = " $name "::new(4)"?
+                "file.record(0..10)?;",
+                "let before = file.try_clone()?;",
+                "file.record(20..30)?;",
+                "assert_eq!((before.covered(), file.covered()), (10, 20));",
+            )]
             pub fn try_clone(&self) -> Result<Self, AllocError> {
                 self.copied()
             }
@@ -119,17 +104,12 @@ macro_rules! calls {
             /// If the tracker would keep more boundaries than the limit, or if memory runs out. It
             /// is then as it was.
             ///
-            /// # Examples
-            ///
-            /// ```
-            #[doc = concat!("use range_sets::tracker::{", $name, ", TrackError};")]
-            ///
-            #[doc = concat!("let mut file = ", $name, "::new(2)", $ok)]
-            /// file.record(5..10)?;
-            /// file.record(10..=19)?;
-            /// assert_eq!(file.record(21..30), Err(TrackError::TooMany { boundaries: 4 }));
-            /// # Ok::<(), TrackError>(())
-            /// ```
+            #[doc = example!(tracks $ok "{" $name ", TrackError}";
+                "let mut file = " $name "::new(2)"?
+                "file.record(5..10)?;",
+                "file.record(10..=19)?;",
+                "assert_eq!(file.record(21..30), Err(TrackError::TooMany { boundaries: 4 }));",
+            )]
             pub fn record(&mut self, range: impl AnyRange<u64>) -> Result<(), TrackError> {
                 self.0.record(ended(range))
             }
@@ -142,17 +122,12 @@ macro_rules! calls {
             /// If the tracker would keep more boundaries than the limit, or if memory runs out. It
             /// is then as it was.
             ///
-            /// # Examples
-            ///
-            /// ```
-            #[doc = concat!("use range_sets::tracker::", $name, ";")]
-            ///
-            #[doc = concat!("let mut file = ", $name, "::new(4)", $ok)]
-            /// file.record(0..10)?;
-            /// file.forget(4..6)?;
-            /// assert!(!file.has(0..10));
-            /// # Ok::<(), range_sets::tracker::TrackError>(())
-            /// ```
+            #[doc = example!(tracks $ok $name;
+                "let mut file = " $name "::new(4)"?
+                "file.record(0..10)?;",
+                "file.forget(4..6)?;",
+                "assert!(!file.has(0..10));",
+            )]
             pub fn forget(&mut self, range: impl AnyRange<u64>) -> Result<(), TrackError> {
                 self.0.forget(ended(range))
             }
@@ -164,17 +139,12 @@ macro_rules! calls {
             ///
             /// Panics if the slices have different lengths.
             ///
-            /// # Examples
-            ///
-            /// ```
-            #[doc = concat!("use range_sets::tracker::{", $name, ", Command, TrackError};")]
-            ///
-            #[doc = concat!("let mut file = ", $name, "::new(2)", $ok)]
-            /// let mut replies = [Ok(()); 2];
-            /// file.run(&[Command::Add(0..10), Command::Forget(4..6)], &mut replies);
-            /// assert_eq!(replies, [Ok(()), Err(TrackError::TooMany { boundaries: 4 })]);
-            /// # Ok::<(), TrackError>(())
-            /// ```
+            #[doc = example!(tracks $ok "{" $name ", Command, TrackError}";
+                "let mut file = " $name "::new(2)"?
+                "let mut replies = [Ok(()); 2];",
+                "file.run(&[Command::Add(0..10), Command::Forget(4..6)], &mut replies);",
+                "assert_eq!(replies, [Ok(()), Err(TrackError::TooMany { boundaries: 4 })]);",
+            )]
             pub fn run(&mut self, commands: &[Command], replies: &mut [Result<(), TrackError>]) {
                 assert_eq!(
                     commands.len(),
@@ -187,16 +157,11 @@ macro_rules! calls {
             /// Returns `true` if every offset of the range is there. It is so for an empty or a
             /// reversed range.
             ///
-            /// # Examples
-            ///
-            /// ```
-            #[doc = concat!("use range_sets::tracker::", $name, ";")]
-            ///
-            #[doc = concat!("let file = ", $name, "::new(4)", $ok)]
-            /// assert!(!file.has(0..1));
-            /// assert!(file.has(7..7));
-            /// # Ok::<(), range_sets::tracker::TrackError>(())
-            /// ```
+            #[doc = example!(tracks $ok $name;
+                "let file = " $name "::new(4)"?
+                "assert!(!file.has(0..1));",
+                "assert!(file.has(7..7));",
+            )]
             #[must_use]
             pub fn has(&self, range: impl AnyRange<u64>) -> bool {
                 self.0.has(ended(range))
@@ -209,16 +174,11 @@ macro_rules! calls {
             ///
             /// If memory runs out.
             ///
-            /// # Examples
-            ///
-            /// ```
-            #[doc = concat!("use range_sets::tracker::", $name, ";")]
-            ///
-            #[doc = concat!("let mut file = ", $name, "::new(4)", $ok)]
-            /// file.record(5..10)?;
-            /// assert_eq!(file.missing(20)?.to_string(), "0..5, 10..20");
-            /// # Ok::<(), range_sets::tracker::TrackError>(())
-            /// ```
+            #[doc = example!(tracks $ok $name;
+                "let mut file = " $name "::new(4)"?
+                "file.record(5..10)?;",
+                r#"assert_eq!(file.missing(20)?.to_string(), "0..5, 10..20");"#,
+            )]
             pub fn missing(&self, len: u64) -> Result<$Set<u64>, AllocError> {
                 self.missing_below(len)
             }
@@ -226,16 +186,11 @@ macro_rules! calls {
             /// Returns an iterator over the parts of a range [of any kind](Within) that aren't
             /// there, from the lowest on. It takes no memory.
             ///
-            /// # Examples
-            ///
-            /// ```
-            #[doc = concat!("use range_sets::tracker::", $name, ";")]
-            ///
-            #[doc = concat!("let mut file = ", $name, "::new(4)", $ok)]
-            /// file.record(5..10)?;
-            /// assert_eq!(file.gaps(&0..&20).next(), Some(&0..&5));
-            /// # Ok::<(), range_sets::tracker::TrackError>(())
-            /// ```
+            #[doc = example!(tracks $ok $name;
+                "let mut file = " $name "::new(4)"?
+                "file.record(5..10)?;",
+                "assert_eq!(file.gaps(&0..&20).next(), Some(&0..&5));",
+            )]
             pub fn gaps<'a, R: Within<'a, u64, $There>>(&'a self, within: R) -> R::Parts {
                 within.parts_of(self.there(), false)
             }
@@ -243,16 +198,11 @@ macro_rules! calls {
             /// Returns an iterator over the ranges of the offsets that are there, from the lowest
             /// on. Each has an end.
             ///
-            /// # Examples
-            ///
-            /// ```
-            #[doc = concat!("use range_sets::tracker::", $name, ";")]
-            ///
-            #[doc = concat!("let mut file = ", $name, "::new(4)", $ok)]
-            /// file.record(5..10)?;
-            /// assert_eq!(file.ranges().next().unwrap().cloned(), (5..10).into());
-            /// # Ok::<(), range_sets::tracker::TrackError>(())
-            /// ```
+            #[doc = example!(tracks $ok $name;
+                "let mut file = " $name "::new(4)"?
+                "file.record(5..10)?;",
+                "assert_eq!(file.ranges().next().unwrap().cloned(), (5..10).into());",
+            )]
             pub fn ranges(&self) -> $iter::Iter<'_, u64> {
                 $iter::Iter::of_proved(self.0.ranges())
             }
@@ -263,16 +213,11 @@ macro_rules! calls {
             ///
             /// Never: what is there has an end, which is proved.
             ///
-            /// # Examples
-            ///
-            /// ```
-            #[doc = concat!("use range_sets::tracker::", $name, ";")]
-            ///
-            #[doc = concat!("let mut file = ", $name, "::new(4)", $ok)]
-            /// file.record(5..10)?;
-            /// assert_eq!(file.covered(), 5);
-            /// # Ok::<(), range_sets::tracker::TrackError>(())
-            /// ```
+            #[doc = example!(tracks $ok $name;
+                "let mut file = " $name "::new(4)"?
+                "file.record(5..10)?;",
+                "assert_eq!(file.covered(), 5);",
+            )]
             #[must_use]
             pub fn covered(&self) -> u128 {
                 self.0

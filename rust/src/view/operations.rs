@@ -11,8 +11,7 @@ use crate::view::RangeSetRef;
 /// Operations with names of their own. An example has the right side, and the result by a name.
 macro_rules! operations_named {
     (
-        $form:ident, $must_use:meta, $errors:ident,
-        $at:literal, $from:literal, $ok:literal, $end:literal:
+        $form:ident, $must_use:meta, $errors:ident, $from:literal:
         $(
             $(#[$does:meta])*
             pub fn $call:ident by $op:ident, $that:literal => $made:literal, $boundaries:literal;
@@ -48,7 +47,7 @@ macro_rules! operations {
     };
     (
         @[$($generics:tt)*], $Left:ty, $form:ident, $Clone:ident, $must_use:meta, $errors:ident,
-        $at:literal, $from:literal, $ok:literal, $end:literal
+        $from:literal
     ) => {
         /// The result holds copies of both sides' boundaries: of two that are equal, this set's.
         /// Its inline size is that of `B`, which a caller names or which follows from the use of
@@ -59,7 +58,7 @@ macro_rules! operations {
         /// between. So a range beside 4,096 boundaries takes some seventy comparisons at most, and
         /// two sets with *n* boundaries in all take 2 *n* at most.
         impl<$($generics)*> $Left {
-            operations_named! { $form, $must_use, $errors, $at, $from, $ok, $end:
+            operations_named! { $form, $must_use, $errors, $from:
             /// Returns the set of the members of one of the two sets, or of both.
             pub fn union by UnionOp, "10..20" => "either", "[0, 20]";
 
