@@ -154,7 +154,7 @@ MUTANTS = [
            "return Err((error, b));", "let _ = error;", "memory"),
     Mutant("no memory is a panic", "memory.rs",
            "handle_alloc_error(Layout::new::<T>())", 'panic!("{:?}", handle_alloc_error as fn(Layout) -> !)', "memory"),
-    Mutant("one isn't the least of non-zero numbers", "entry.rs", "self.get() == 1", "self.get() == 2", "rows"),
+    Mutant("one isn't the least of non-zero numbers", "entry.rs", "it.get() == 1", "it.get() == 2", "rows"),
     Mutant("negation of a reference is a copy", "array.rs", "if op.neither {", "if !op.neither {", "tables"),
     Mutant("the last of many sets is lost", "range_set/joining.rs", "L::union_of(&views,", "L::union_of(&views[..views.len().min(3)],", "ranges"),
     Mutant("insert takes out", "range_set/in_place.rs", "set_range(range.into(), true)", "set_range(range.into(), false)", "rows"),

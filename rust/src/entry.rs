@@ -72,36 +72,48 @@ pub trait RangeSetEntry: Ord {
     fn is_min_value(&self) -> bool;
 }
 
-macro_rules! numbers {
-    ($($number:ty)*) => {$(
-        impl RangeSetEntry for $number {
+/// Gives types a least value, and says whether a value is that.
+macro_rules! least_values {
+    ($($(#[$attribute:meta])* [$($T:ident)?] $entry:ty = $least:expr, |$it:ident| $is_least:expr;)*) => {$(
+        $(#[$attribute])*
+        impl$(<$T: Ord>)? RangeSetEntry for $entry {
             #[inline]
             fn min_value() -> Self {
-                <$number>::MIN
+                $least
             }
 
             #[inline]
             fn is_min_value(&self) -> bool {
-                *self == <$number>::MIN
+                let $it = self;
+                $is_least
             }
         }
     )*};
+}
+
+least_values! {
+    [] char = '\0', |it| *it == '\0';
+    /// A nanosecond is the least step between two.
+    [] Duration = Duration::ZERO, |it| it.is_zero();
+    [] String = String::new(), |it| it.is_empty();
+    [] &str = "", |it| it.is_empty();
+    [T] Vec<T> = Vec::new(), |it| it.is_empty();
+    [T] &[T] = &[], |it| it.is_empty();
+    [T] Option<T> = None, |it| it.is_none();
+}
+
+macro_rules! numbers {
+    ($($number:ty)*) => {
+        least_values! { $([] $number = <$number>::MIN, |it| *it == <$number>::MIN;)* }
+    };
 }
 
 numbers!(u8 u16 u32 u64 u128 usize i8 i16 i32 i64 i128 isize);
 
 macro_rules! non_zero_numbers {
     ($($number:ty)*) => {$(
-        impl RangeSetEntry for $number {
-            #[inline]
-            fn min_value() -> Self {
-                <$number>::new(1).expect("one is not zero")
-            }
-
-            #[inline]
-            fn is_min_value(&self) -> bool {
-                self.get() == 1
-            }
+        least_values! {
+            [] $number = <$number>::new(1).expect("one is not zero"), |it| it.get() == 1;
         }
 
         /// Its place is how many numbers from 1 on are below it.
@@ -115,31 +127,6 @@ macro_rules! non_zero_numbers {
 }
 
 non_zero_numbers!(NonZeroU8 NonZeroU16 NonZeroU32 NonZeroU64 NonZeroU128 NonZeroUsize);
-
-impl RangeSetEntry for char {
-    #[inline]
-    fn min_value() -> Self {
-        '\0'
-    }
-
-    #[inline]
-    fn is_min_value(&self) -> bool {
-        *self == '\0'
-    }
-}
-
-/// A nanosecond is the least step between two.
-impl RangeSetEntry for Duration {
-    #[inline]
-    fn min_value() -> Self {
-        Duration::ZERO
-    }
-
-    #[inline]
-    fn is_min_value(&self) -> bool {
-        self.is_zero()
-    }
-}
 
 /// Its place is how many nanoseconds it has.
 impl Countable for Duration {
@@ -234,19 +221,11 @@ signed_lengths!(i8 i16 i32 i64 i128 isize);
 
 macro_rules! addresses {
     ($($(#[$doc:meta])* $address:ident of $number:ident;)*) => {$(
-        $(#[$doc])*
-        #[cfg(feature = "std")]
-        #[cfg_attr(docsrs, doc(cfg(feature = "std")))]
-        impl RangeSetEntry for $address {
-            #[inline]
-            fn min_value() -> Self {
-                $address::UNSPECIFIED
-            }
-
-            #[inline]
-            fn is_min_value(&self) -> bool {
-                self.is_unspecified()
-            }
+        least_values! {
+            $(#[$doc])*
+            #[cfg(feature = "std")]
+            #[cfg_attr(docsrs, doc(cfg(feature = "std")))]
+            [] $address = $address::UNSPECIFIED, |it| it.is_unspecified();
         }
 
         /// Its place is its number.
@@ -299,41 +278,6 @@ addresses! {
     Ipv4Addr of u32;
     /// The addresses from :: on, in the order of their numbers.
     Ipv6Addr of u128;
-}
-
-macro_rules! lists {
-    ($([$($generics:tt)*] $list:ty = $least:expr;)*) => {$(
-        impl<$($generics)*> RangeSetEntry for $list {
-            #[inline]
-            fn min_value() -> Self {
-                $least
-            }
-
-            #[inline]
-            fn is_min_value(&self) -> bool {
-                self.is_empty()
-            }
-        }
-    )*};
-}
-
-lists! {
-    [] String = String::new();
-    [] &str = "";
-    [T: Ord] Vec<T> = Vec::new();
-    [T: Ord] &[T] = &[];
-}
-
-impl<T: Ord> RangeSetEntry for Option<T> {
-    #[inline]
-    fn min_value() -> Self {
-        None
-    }
-
-    #[inline]
-    fn is_min_value(&self) -> bool {
-        self.is_none()
-    }
 }
 
 /// The generated code asks for a least value that may run out of memory.
