@@ -106,9 +106,7 @@ macro_rules! questions {
             )]
             #[must_use]
             pub fn range_at(&self, value: &T) -> Option<RangeSetRange<&T>> {
-                self.proved()
-                    .range_at(value)
-                    .map(RangeSetRange::from_proved)
+                self.proved().range_at(value).map(RangeSetRange::from_proved)
             }
 
             /// Returns the lowest member at or above `from`, or `None` if there is none.
@@ -370,8 +368,7 @@ macro_rules! questions {
             where
                 T: FromPlace,
             {
-                self.proved()
-                    .first_fit_aligned(within, count, align)
+                self.proved().first_fit_aligned(within, count, align)
             }
 
             /// Returns the greatest value of the range from which on `len` values of it are free,

@@ -1,11 +1,12 @@
 //! What sets in chunks and maps share: lists in chunks made of others, their items as references,
-//! as clones and moved out, a hash, and what is put into one after the other.
+//! as clones and moved out, a hash, what is put into one after the other, and calls of a closure.
 
 use crate::generated::range_list::chunk::Chunk;
 use crate::generated::range_list::chunk_list::ChunkList;
 use crate::generated::range_list::{Chunks, Mark};
 use crate::support;
 use alloc::vec::{self, Vec};
+use core::cell::RefCell;
 use core::hash::{Hash, Hasher};
 use core::iter::{self, FusedIterator};
 use core::mem;
@@ -123,6 +124,16 @@ where
     let mut taken = mem::take(own);
     taken.extend(mem::take(that));
     *own = taken;
+}
+
+/// A filter or an operation by a closure.
+pub(crate) struct ByCall<F>(pub RefCell<F>);
+
+impl<F> ByCall<F> {
+    #[inline(always)]
+    pub(crate) fn new(call: F) -> Self {
+        ByCall(RefCell::new(call))
+    }
 }
 
 fn list<T>(items: impl Iterator<Item = T>) -> support::Vec<T> {

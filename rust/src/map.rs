@@ -24,6 +24,7 @@ pub(crate) use kept::{Copies, Kept};
 pub(crate) use steps::Changes;
 
 use crate::any_range::{AnyRange, Overlaps, Within};
+use crate::chunks::ByCall;
 use crate::generated::range_collections::{self, Comparisons};
 use crate::generated::range_entry::EntryClone;
 use crate::generated::range_map as proved;
@@ -79,13 +80,10 @@ pub type RangeMap<K, V> = Map<K, V, ByClone>;
 /// or by a copy that may fail.
 pub struct Map<K: Ord, V: Eq, C>(proved::RangeMap<K, Kept<V, C>>);
 
-/// A filter by a closure.
-struct KeptIf<F>(F);
-
-impl<K, V, C, F: Fn(RangeSetRange<&K>, &V) -> bool> RangeFilter<K, Kept<V, C>> for KeptIf<F> {
+impl<K, V, C, F: FnMut(RangeSetRange<&K>, &V) -> bool> RangeFilter<K, Kept<V, C>> for ByCall<F> {
     #[inline(always)]
     fn keeps(&self, range: range_collections::RangeSetRange<&K>, kept: &Kept<V, C>) -> bool {
-        (self.0)(RangeSetRange::from_proved(range), &kept.value)
+        (self.0.borrow_mut())(RangeSetRange::from_proved(range), &kept.value)
     }
 }
 

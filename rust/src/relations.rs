@@ -99,12 +99,7 @@ macro_rules! relations {
             )]
             #[must_use]
             pub fn intersects(&self, that: &(impl AnySet<T> + ?Sized)) -> bool {
-                between!(
-                    self,
-                    that,
-                    intersects(),
-                    chunks::ChunkedRangeSet::intersects
-                )
+                between!(self, that, intersects(), chunks::ChunkedRangeSet::intersects)
             }
 
             /// Returns `true` if the sets have no member in common. It stops at the first common
@@ -130,12 +125,7 @@ macro_rules! relations {
             )]
             #[must_use]
             pub fn is_subset(&self, that: &(impl AnySet<T> + ?Sized)) -> bool {
-                between!(
-                    self,
-                    that,
-                    is_subset(),
-                    chunks::ChunkedRangeSet::is_superset
-                )
+                between!(self, that, is_subset(), chunks::ChunkedRangeSet::is_superset)
             }
 
             /// Returns `true` if every member of `that` is one of this set. A set is a superset of
@@ -147,12 +137,7 @@ macro_rules! relations {
             )]
             #[must_use]
             pub fn is_superset(&self, that: &(impl AnySet<T> + ?Sized)) -> bool {
-                between!(
-                    self,
-                    that,
-                    is_superset(),
-                    chunks::ChunkedRangeSet::is_subset
-                )
+                between!(self, that, is_superset(), chunks::ChunkedRangeSet::is_subset)
             }
 
             /// Returns `true` if the result of an operation has a member. It stops at the first one.

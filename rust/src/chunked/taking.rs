@@ -1,13 +1,12 @@
 //! Whole ranges taken out, or moved between two sets, and whole ranges that meet another.
 
 use super::{ChunkedRangeSet, Iter};
-use crate::chunks;
+use crate::chunks::{self, ByCall};
 use crate::forms::{ends, fails};
 use crate::generated::range_chunks as proved;
 use crate::generated::range_collections::{self as lists, Boundaries, Comparisons};
 use crate::range::RangeSetRange;
 use crate::range_set::RangeSetRef;
-use core::cell::RefCell;
 use core::mem;
 
 #[rustfmt::skip]
@@ -25,7 +24,7 @@ macro_rules! taking {
                 "free" => "9..11, 20..30",
             )]
             pub fn retain(&mut self, keep: impl FnMut(RangeSetRange<&T>) -> bool) {
-                let keep = KeptIf(RefCell::new(keep));
+                let keep = ByCall::new(keep);
                 let mut set = mem::take(self);
                 set.changed(|set| set.retain(&keep));
                 *self = set;
@@ -36,10 +35,7 @@ macro_rules! taking {
 
 both_forms!(taking);
 
-/// A filter by a closure.
-struct KeptIf<F>(RefCell<F>);
-
-impl<T, F: FnMut(RangeSetRange<&T>) -> bool> proved::RangeFilter<T> for KeptIf<F> {
+impl<T, F: FnMut(RangeSetRange<&T>) -> bool> proved::RangeFilter<T> for ByCall<F> {
     #[inline(always)]
     fn keeps(&self, range: lists::RangeSetRange<&T>) -> bool {
         (self.0.borrow_mut())(RangeSetRange::from_proved(range))

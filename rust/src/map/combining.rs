@@ -11,6 +11,7 @@ use super::forms::{as_it_is, both_maps, in_ok};
 use super::{AnyKeys, Copies, Kept, Map};
 use crate::any_range::{AnyRange, Overlaps};
 use crate::array::{Array, List, Sorting};
+use crate::chunks::ByCall;
 use crate::fallible::{EntryClone, MapValue};
 use crate::forms::{ends, fails};
 use crate::generated::range_collections::Comparisons;
@@ -23,16 +24,13 @@ use crate::memory::AllocError;
 use crate::range::RangeSetRange;
 use crate::range_set::union_of_read;
 use crate::support::{Global, Vec};
-use core::cell::RefCell;
 use core::ops::{Add, RangeFrom};
 
-/// An operation by a closure, which isn't called if both maps have no value.
-struct ByCall<F>(F);
-
+/// The closure isn't called if both maps have no value.
 impl<V, W, U, C, F> MapOperation<Kept<V, C>, Kept<W, C>> for ByCall<F>
 where
     U: Eq,
-    F: Fn(Option<&V>, Option<&W>) -> Result<Option<U>, AllocError>,
+    F: FnMut(Option<&V>, Option<&W>) -> Result<Option<U>, AllocError>,
 {
     type Output = Kept<U, C>;
 
@@ -45,7 +43,8 @@ where
         if left.is_none() && right.is_none() {
             return Ok(None);
         }
-        let made = (self.0)(left.map(|kept| &kept.value), right.map(|kept| &kept.value));
+        let (left, right) = (left.map(|kept| &kept.value), right.map(|kept| &kept.value));
+        let made = (self.0.borrow_mut())(left, right);
         made.map(|option| option.map(Kept::new))
     }
 }
@@ -53,11 +52,11 @@ where
 impl<V, C, F> MapUpdate<Kept<V, C>> for ByCall<F>
 where
     V: Eq,
-    F: Fn(Option<&V>) -> Result<Option<V>, AllocError>,
+    F: FnMut(Option<&V>) -> Result<Option<V>, AllocError>,
 {
     #[inline(always)]
     fn apply(&self, option: Option<&Kept<V, C>>) -> Result<Option<Kept<V, C>>, AllocError> {
-        let made = (self.0)(option.map(|kept| &kept.value));
+        let made = (self.0.borrow_mut())(option.map(|kept| &kept.value));
         made.map(|option| option.map(Kept::new))
     }
 }
@@ -70,8 +69,7 @@ impl<K: Ord, V: Eq, C: Copies<V>> Map<K, V, C> {
         op: impl FnMut(Option<&V>, Option<&W>) -> Result<Option<U>, AllocError>,
         copier: &impl Copier<K>,
     ) -> Result<Map<K, U, C>, AllocError> {
-        let op = RefCell::new(op);
-        let op = ByCall(|a: Option<&V>, b: Option<&W>| (op.borrow_mut())(a, b));
+        let op = ByCall::new(op);
         let count = &mut Comparisons::new();
         let made = self.0.combine_by(Global, &that.0, &op, copier, count);
         made.map(Map)
@@ -94,8 +92,7 @@ impl<K: Ord, V: Eq, C: Copies<V>> Map<K, V, C> {
         op: impl FnMut(Option<&V>) -> Result<Option<V>, AllocError>,
         copier: &impl Copier<K>,
     ) -> Result<(), AllocError> {
-        let op = RefCell::new(op);
-        let op = ByCall(|value: Option<&V>| (op.borrow_mut())(value));
+        let op = ByCall::new(op);
         match range {
             RangeSetRange::Range(range) => self.0.update_by(range, &op, copier),
             RangeSetRange::RangeFrom(RangeFrom { start }) => {

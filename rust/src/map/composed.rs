@@ -3,16 +3,15 @@
 
 use super::forms::{as_it_is, both_maps, in_ok};
 use super::iter::with_value;
-use super::{Copies, Iter, KeptIf, Map, RangeMap};
+use super::{Copies, Iter, Map, RangeMap};
 use crate::any_range::AnyRange;
-use crate::chunks;
+use crate::chunks::{self, ByCall};
 use crate::fallible::{EntryClone, MapValue};
 use crate::forms::{ends, fails};
 use crate::generated::range_merge::Copier;
 use crate::memory::AllocError;
 use crate::range::RangeSetRange;
 use crate::range_set::RangeSetRef;
-use core::cell::RefCell;
 use core::iter;
 
 /// These read ranges or values alone.
@@ -107,8 +106,7 @@ impl<K: Ord, V: Eq, C> Map<K, V, C> {
     /// assert_eq!(format!("{bookings:?}"), r#"{9..11: "Ada", 11..14: "Bob"}"#);
     /// ```
     pub fn retain_ranges(&mut self, keep: impl FnMut(RangeSetRange<&K>, &V) -> bool) {
-        let keep = RefCell::new(keep);
-        let keep = KeptIf(|range: RangeSetRange<&K>, value: &V| (keep.borrow_mut())(range, value));
+        let keep = ByCall::new(keep);
         self.changed(|map| map.retain_ranges(&keep));
     }
 }
