@@ -104,6 +104,10 @@ fn view(set: &Set) -> &RangeSetRef<u32> {
     set
 }
 
+fn over(boundaries: &[u32]) -> &RangeSetRef<u32> {
+    RangeSetRef::new(boundaries).expect("they are sorted")
+}
+
 fn in_chunks(set: &ChunkedRangeSet<u32>) -> &range_sets::ChunkedRangeSet<u32> {
     set
 }
@@ -229,6 +233,8 @@ fn chunked_calls() -> Vec<Row<ChunkedRangeSet<u32>>> {
         }
         may_fail {
             into_set => mem::take(a).into_set::<[u32; 2]>().map_err(|(_, back)| *a = back);
+            union_all => ChunkedRangeSet::union_all([&[5, 9, 20, 30][..], &[40]].map(over));
+            intersection_all => ChunkedRangeSet::intersection_all([&[5, 9, 20, 30][..], &[7]].map(over));
         }
     };
     rows.extend(questions!(ChunkedRangeSet<u32>));
