@@ -135,15 +135,13 @@ macro_rules! questions {
             ///
             /// The next byte of a download that is missing:
             ///
-            /// ```
-            #[doc = concat!("use range_sets::", $name, ";")]
-            ///
-            #[doc = concat!("let mut received = ", $name, "::from(0..10);")]
-            /// received.insert(20..);
-            /// assert_eq!(received.next_gap(&0), Some(&10));
-            /// assert_eq!(received.next_gap(&15), Some(&15));
-            /// assert_eq!(received.next_gap(&20), None);
-            /// ```
+            #[doc = code!(ends $name;
+                "let mut received = " $name "::from(0..10);",
+                "received.insert(20..);",
+                "assert_eq!(received.next_gap(&0), Some(&10));",
+                "assert_eq!(received.next_gap(&15), Some(&15));",
+                "assert_eq!(received.next_gap(&20), None);",
+            )]
             #[must_use]
             pub fn next_gap<'a>(&'a self, from: &'a T) -> Option<&'a T> {
                 self.proved().next_gap(from)

@@ -127,15 +127,10 @@ macro_rules! written {
             ///
             /// If memory runs out.
             ///
-            /// # Examples
-            ///
-            /// ```
-            #[doc = concat!("use range_sets::fallible::{AllocError, ", $Set, "};")]
-            ///
-            #[doc = concat!("let set = ", $Set, "::from_ranges([7u8..10])?;")]
-            /// assert_eq!(set.to_multirange()?, "{[7,10)}");
-            /// # Ok::<(), AllocError>(())
-            /// ```
+            #[doc = example!(fails $Set;
+                "let set = " $Set "::from_ranges([7u8..10])"?
+                r#"assert_eq!(set.to_multirange()?, "{[7,10)}");"#,
+            )]
             pub fn to_multirange(&self) -> Result<String, AllocError> {
                 let mut text = Text(String::new());
                 write!(text, "{}", Multirange(self.iter())).map_err(|fmt::Error| AllocError)?;

@@ -71,7 +71,7 @@ where
 
 /// The functions that read sets of a form, and those for sets in chunks.
 macro_rules! reading {
-    ($form:ident, $at:literal) => {
+    ($form:ident) => {
         /// Reads a sequence of pairs, in any order.
         ///
         /// # Errors
@@ -79,18 +79,14 @@ macro_rules! reading {
         /// Those of the format, and for a set of [`fallible`](crate::fallible) one if memory runs
         /// out.
         ///
-        /// # Examples
-        ///
-        /// ```
-        #[doc = concat!("use ", $at, "::{pairs, RangeSet2};")]
-        ///
-        /// let read = |json| -> Result<RangeSet2<u8>, _> {
-        ///     pairs::deserialize(&mut serde_json::Deserializer::from_str(json))
-        /// };
-        /// assert_eq!(read("[[20,null],[0,4],[2,9],[19,10]]")?.to_string(), "0..9, 20..");
-        /// assert!(read("[[0,256]]").is_err());
-        /// # Ok::<(), serde_json::Error>(())
-        /// ```
+        #[doc = example!($form "{pairs, RangeSet2}";
+            "let read = |json| -> Result<RangeSet2<u8>, _> {",
+            "    pairs::deserialize(&mut serde_json::Deserializer::from_str(json))",
+            "};",
+            r#"assert_eq!(read("[[20,null],[0,4],[2,9],[19,10]]")?.to_string(), "0..9, 20..");"#,
+            r#"assert!(read("[[0,256]]").is_err());"#,
+            Ok "serde_json::Error"
+        )]
         pub fn deserialize<'de, T, A, D>(deserializer: D) -> Result<$form::RangeSet<A>, D::Error>
         where
             T: Deserialize<'de> + Ord,
@@ -103,19 +99,15 @@ macro_rules! reading {
 
         /// Sets in chunks as sequences of pairs. Name it at a field.
         ///
-        /// # Examples
-        ///
-        /// ```
-        #[doc = concat!("use ", $at, "::{pairs, ChunkedRangeSet};")]
-        ///
-        /// let json = "[[0,10],[20,null]]";
-        /// let set: ChunkedRangeSet<u8> =
-        ///     pairs::chunked::deserialize(&mut serde_json::Deserializer::from_str(json))?;
-        /// assert_eq!(set.to_string(), "0..10, 20..");
-        /// let written = pairs::chunked::serialize(&set, serde_json::value::Serializer)?;
-        /// assert_eq!(written.to_string(), json);
-        /// # Ok::<(), serde_json::Error>(())
-        /// ```
+        #[doc = example!($form "{pairs, ChunkedRangeSet}";
+            r#"let json = "[[0,10],[20,null]]";"#,
+            "let set: ChunkedRangeSet<u8> =",
+            "    pairs::chunked::deserialize(&mut serde_json::Deserializer::from_str(json))?;",
+            "set" => "0..10, 20..",
+            "let written = pairs::chunked::serialize(&set, serde_json::value::Serializer)?;",
+            "assert_eq!(written.to_string(), json);",
+            Ok "serde_json::Error"
+        )]
         pub mod chunked {
             use crate::array::List;
             use crate::chunked::ChunkedRangeSet;
@@ -160,7 +152,7 @@ macro_rules! reading {
 
 pub(crate) use reading;
 
-reading!(ends, "range_sets");
+reading!(ends);
 
 /// Reads a sequence of pairs. Running out of memory is apart from the format's errors.
 pub(crate) fn read<'de, A: Array, D: Deserializer<'de>>(

@@ -109,17 +109,12 @@ macro_rules! with_owned {
             /// If memory runs out. The set is then as it was, and the other one comes back as it
             /// was.
             ///
-            /// # Examples
-            ///
-            /// ```
-            /// use range_sets::fallible::{AllocError, RangeSet2};
-            ///
-            /// let mut set = RangeSet2::try_from(0..10)?;
-            /// let other = RangeSet2::try_from(5..)?;
-            #[doc = concat!("set.", stringify!($call), "(other).map_err(|(refused, _)| refused)?;")]
-            #[doc = concat!("assert_eq!(set.boundaries(), ", $boundaries, ");")]
-            /// # Ok::<(), AllocError>(())
-            /// ```
+            #[doc = example!(fails "RangeSet2";
+                "let mut set = RangeSet2::try_from(0..10)"?
+                "let other = RangeSet2::try_from(5..)"?
+                ["set.", stringify!($call), "(other).map_err(|(refused, _)| refused)"]?
+                "assert_eq!(set.boundaries(), " $boundaries ");",
+            )]
             pub fn $call(&mut self, that: Self) -> Result<(), (AllocError, Self)> {
                 let merged = self.list.merge_owned(that.list, &$op);
                 merged.map_err(|(refused, list)| (refused, Self::of_list(list)))

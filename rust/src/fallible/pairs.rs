@@ -19,4 +19,4 @@ pub use crate::pairs::serialize;
 use crate::pairs::{read, reading};
 use serde::de::{Deserialize, Deserializer, Error};
 
-reading!(fails, "range_sets::fallible");
+reading!(fails);
