@@ -49,16 +49,18 @@ macro_rules! no_errors {
     };
 }
 
-/// Writes the section of the documentation with an example, as [`code`] does.
+/// Writes the section of the documentation with an example, as [`code`] does. rustfmt would move
+/// its lines each time it runs: where it could, the macro around it has `rustfmt::skip`.
 macro_rules! example {
     ($($code:tt)*) => {
         concat!("# Examples\n\n", code!($($code)*))
     };
 }
 
-/// Writes the code of an example, with what it uses first. A line that ends in `?` may fail, which is
-/// an error in `fallible`. Others end in a comma: with `=>` they say what a set is as a text, and with
-/// `=` what `{:?}` makes of a map. A last line `Ok` has the type of other errors.
+/// Writes the code of an example of a form, or of a tracker by `tracks`, with what it uses first. A
+/// line that ends in `?` may fail, which is an error in `fallible`. Others end in a comma: with
+/// `=>` they say what a set is as a text, and with `=` what `{:?}` makes of a map. A last line `Ok`
+/// has the type of other errors.
 macro_rules! code {
     (ends $($code:tt)*) => {
         code!(@ "range_sets", ";", "": $($code)*)
