@@ -34,25 +34,25 @@ namespace detail {
 // The calls of the header for one of its types of keys.
 template <class Key> struct map_calls;
 
+#define RANGE_MAP_CALL(number, call) static constexpr auto call = range_map_##number##_##call;
 #define RANGE_MAP_CALLS(number, Key) \
     template <> struct map_calls<Key> { \
         using owned = range_map_##number; \
         using stretch = range_map_##number##_stretch; \
         static constexpr auto make = range_map_##number##_new; \
-        static constexpr auto free = range_map_##number##_free; \
-        static constexpr auto copy = range_map_##number##_copy; \
-        static constexpr auto insert = range_map_##number##_insert; \
-        static constexpr auto insert_from = range_map_##number##_insert_from; \
-        static constexpr auto remove = range_map_##number##_remove; \
-        static constexpr auto remove_from = range_map_##number##_remove_from; \
-        static constexpr auto range_at = range_map_##number##_range_at; \
-        static constexpr auto next = range_map_##number##_next; \
-        static constexpr auto next_ranges = range_map_##number##_next_ranges; \
-        static constexpr auto len = range_map_##number##_len; \
+        RANGE_MAP_CALL(number, free) RANGE_MAP_CALL(number, copy) RANGE_MAP_CALL(number, len) RANGE_MAP_CALL(number, range_at) \
+        RANGE_MAP_CALL(number, insert) RANGE_MAP_CALL(number, insert_from) RANGE_MAP_CALL(number, remove) RANGE_MAP_CALL(number, remove_from) \
+        RANGE_MAP_CALL(number, first) RANGE_MAP_CALL(number, last) RANGE_MAP_CALL(number, span) RANGE_MAP_CALL(number, covered) \
+        RANGE_MAP_CALL(number, next) RANGE_MAP_CALL(number, next_ranges) \
+        RANGE_MAP_CALL(number, first_fit) RANGE_MAP_CALL(number, first_fit_from) \
+        RANGE_MAP_CALL(number, first_fit_aligned) RANGE_MAP_CALL(number, first_fit_aligned_from) \
     };
+RANGE_MAP_CALLS(i32, std::int32_t)
+RANGE_MAP_CALLS(u32, std::uint32_t)
 RANGE_MAP_CALLS(i64, std::int64_t)
 RANGE_MAP_CALLS(u64, std::uint64_t)
 #undef RANGE_MAP_CALLS
+#undef RANGE_MAP_CALL
 
 // For an iterator over ranges with their values.
 template <class T, class V, class Iterator>
@@ -61,14 +61,13 @@ using if_entries = std::enable_if_t<std::is_convertible_v<decltype(std::declval<
 
 } // namespace detail
 
-template <class T, class V> class range_map {
+template <class T, class V>
+class range_map : public detail::room_questions<T, range_map<T, V>, detail::map_calls<typename detail::element<T>::number>> {
     using element = detail::element<T>;
-    using number = typename element::number;
-    using key = std::conditional_t<std::is_signed_v<number>, std::int64_t, std::uint64_t>;
+    using key = typename element::number;
     using calls = detail::map_calls<key>;
     using numbers = detail::values<V>;
     using integer = detail::integer<T>;
-    using amount = detail::amount<T>;
 
 public:
     using value_type = std::pair<range<T>, V>;
@@ -120,7 +119,7 @@ public:
         void read(key from, std::size_t count) noexcept
         {
             at_ = 0;
-            len_ = calls::next_ranges(map_->map(), from, some_.data(), count);
+            len_ = calls::next_ranges(map_->inner(), from, some_.data(), count);
         }
 
         const range_map *map_ = nullptr;
@@ -153,7 +152,7 @@ public:
     range_map(const range_map &other)
     {
         if constexpr (detail::is_plain<V>) {
-            if (other.map().at != nullptr) detail::check_memory(calls::copy(other.map(), &owner_.it));
+            if (other.inner().at != nullptr) detail::check_memory(calls::copy(other.inner(), &owner_.it));
             values_ = other.values_;
         } else {
             other.each_over(least, most, [&](const stretch &it) {
@@ -265,14 +264,11 @@ public:
     std::optional<value_type> range_at(integer at) const { return item(around(at)); }
     // The first and the last range that have a value, each with its value, and the range from the start of the first to the end of the
     // last; nothing if the map is empty. Each end takes at most two searches.
-    std::optional<value_type> first() const { return item(lowest()); }
-    std::optional<value_type> last() const { return item(highest()); }
-    std::optional<range<T>> span() const noexcept
-    {
-        const auto low = lowest();
-        if (!low.has_value) return std::nullopt;
-        return range_of(low, highest());
-    }
+    std::optional<value_type> first() const { return item(asked(calls::first)); }
+    std::optional<value_type> last() const { return item(asked(calls::last)); }
+    std::optional<range<T>> span() const noexcept { return detail::found_range<T>(calls::span, inner()); }
+    // How many keys have a value, or nothing if these have no end.
+    std::optional<std::uint64_t> covered() const noexcept { return detail::found<std::uint64_t>(calls::covered, inner()); }
     // The ranges that have a key from `start` to below `end`, whole, each with its value; and the
     // map of the values there alone.
     std::vector<value_type> overlapping(integer start, integer end) const { return overlapping(range<T>{start, end}); }
@@ -314,15 +310,8 @@ public:
     bool contains_range(integer start, integer end) const { return taken({start, end}).contains_range(start, end); }
     bool intersects_range(integer start, integer end) const noexcept
     {
-        const auto it = from(key_of(start));
+        const auto it = asked(calls::next, key_of(start));
         return start.value < end.value && it.has_value && it.start < key_of(end);
-    }
-    // The least key from which on `count` keys lie in `start` to below `end` and none has a value,
-    // or nothing; and the same where it is a multiple of `align`. They go over the ranges there.
-    std::optional<T> first_fit(integer start, integer end, amount count) const { return taken({start, end}).first_fit(start, end, count); }
-    std::optional<T> first_fit_aligned(integer start, integer end, amount count, amount align) const
-    {
-        return taken({start, end}).first_fit_aligned(start, end, count, align);
     }
 
     // The map of what `how` makes of the values that a key has in this map and in another, whose values may be of another type. It is
@@ -339,7 +328,7 @@ public:
     {
         range_map<T, typename std::invoke_result_t<How &, const V *, const W *>::value_type> made;
         key at = least;
-        auto here = calls::range_at(map(), at), there = calls::range_at(other.map(), at);
+        auto here = calls::range_at(inner(), at), there = calls::range_at(other.inner(), at);
         for (bool has_end = true; has_end;) {
             has_end = here.has_end || there.has_end;
             const key end = here.has_end && !(there.has_end && there.end < here.end) ? here.end : there.end;
@@ -349,8 +338,8 @@ public:
                 if (value) made.put({at, end, has_end}, *value);
             }
             at = end;
-            if (here.has_end && here.end == at) here = calls::range_at(map(), at);
-            if (there.has_end && there.end == at) there = calls::range_at(other.map(), at);
+            if (here.has_end && here.end == at) here = calls::range_at(inner(), at);
+            if (there.has_end && there.end == at) there = calls::range_at(other.inner(), at);
         }
         return made;
     }
@@ -362,8 +351,8 @@ public:
     iterator begin_from(integer at) const && = delete;
     iterator end() const & noexcept { return iterator(); }
     iterator end() const && = delete;
-    std::size_t size() const noexcept { return calls::len(map()); }
-    bool empty() const noexcept { return !lowest().has_value; }
+    std::size_t size() const noexcept { return calls::len(inner()); }
+    bool empty() const noexcept { return !asked(calls::first).has_value; }
 
     friend bool operator==(const range_map &a, const range_map &b)
     {
@@ -373,39 +362,29 @@ public:
 
 private:
     template <class, class> friend class range_map;
+    template <class, class, class> friend class detail::room_questions;
     using stretch = typename calls::stretch;
     using bounds = range<key>;
     static constexpr key least = std::numeric_limits<key>::min(), most = std::numeric_limits<key>::max();
 
-    typename calls::owned map() const noexcept { return owner_.it; }
+    typename calls::owned inner() const noexcept { return owner_.it; }
 
     static key key_of(integer at) noexcept { return element::in(at.value); }
     static bounds keys_of(const range<T> &it) noexcept { return {element::in(it.start), element::in(it.end), it.has_end}; }
     static bool is_empty(const bounds &at) noexcept { return at.has_end && at.start >= at.end; }
-    // The range from the start of one to the end of another.
-    static range<T> range_of(const stretch &first, const stretch &last) noexcept
-    {
-        const auto at = [](key of) { return element::out(static_cast<number>(of)); };
-        return {at(first.start), at(last.end), last.has_end};
-    }
+    static range<T> range_of(const stretch &it) noexcept { return {element::out(it.start), element::out(it.end), it.has_end}; }
 
-    stretch around(integer at) const noexcept { return calls::range_at(map(), key_of(at)); }
-    // The first range with a value that has a key at or above another; the first of all, and the last. They have no value if there is none.
-    stretch from(key at) const noexcept
+    stretch around(integer at) const noexcept { return calls::range_at(inner(), key_of(at)); }
+    // The range that a call finds, which has no value if there is none.
+    template <class Call, class... Keys> stretch asked(Call call, Keys... keys) const noexcept
     {
         stretch it = {};
-        static_cast<void>(calls::next(map(), at, &it));
+        static_cast<void>(call(inner(), keys..., &it));
         return it;
-    }
-    stretch lowest() const noexcept { return from(least); }
-    stretch highest() const noexcept
-    {
-        const auto it = calls::range_at(map(), most);
-        return it.has_value || !it.has_start ? it : calls::range_at(map(), it.start - 1);
     }
 
     // A range that has a value, and that.
-    typename iterator::reference shown(const stretch &it) const noexcept { return {range_of(it, it), values_.value_of(it.value)}; }
+    typename iterator::reference shown(const stretch &it) const noexcept { return {range_of(it), values_.value_of(it.value)}; }
     // The same, or nothing if there is none.
     std::optional<value_type> item(const stretch &it) const
     {
@@ -435,7 +414,7 @@ private:
     {
         std::vector<range<T>> found;
         each_within(at, [&](const stretch &it) {
-            if (wanted(it.value)) found.push_back(range_of(it, it));
+            if (wanted(it.value)) found.push_back(range_of(it));
         });
         return range_set<T>(found);
     }
@@ -443,7 +422,7 @@ private:
     {
         return keys_where(at, [](std::uint64_t) { return true; });
     }
-    static range<T> all_keys() noexcept { return {element::out(std::numeric_limits<number>::min()), T(), false}; }
+    static range<T> all_keys() noexcept { return {element::out(least), T(), false}; }
 
     // The depth of `count` ranges, which is the sum of those of both halves.
     template <class Iterator> static range_map depth_of(Iterator first, std::ptrdiff_t count)
@@ -482,8 +461,8 @@ private:
             // Beside 0.0 or -0.0 it is what stands there, so that the two are one range.
             if (value == 0 && !is_empty(at)) {
                 const auto is_zero = [&](const stretch &it) { return it.has_value && values_.value_of(it.value) == 0; };
-                const stretch after = at.has_end ? calls::range_at(map(), at.end) : stretch();
-                const stretch before = at.start > least ? calls::range_at(map(), at.start - 1) : stretch();
+                const stretch after = at.has_end ? calls::range_at(inner(), at.end) : stretch();
+                const stretch before = at.start > least ? calls::range_at(inner(), at.start - 1) : stretch();
                 if (is_zero(after)) which = after.value, at = {at.start, after.end, after.has_end};
                 if (is_zero(before)) which = before.value;
             }

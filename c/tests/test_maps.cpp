@@ -189,15 +189,20 @@ template <class T, class V> static void asked()
     check(some.keys() == std::vector<range<T>>{{9, 12}, {12, 14}, {16, 17}} && some.values() == std::vector<V>{a, b, a}, "keys, values");
     check(map().keys().empty() && map().values().empty(), "no keys, no values");
     const range_set<T> keys = some.domain();
+    check(some.covered() == 6u && map().covered() == 0u && !map(some).insert_from(30, a).covered(), "covered");
     for (T start = 8; start < 19; start++)
-        for (T end = 8; end < 19; end++) {
+        for (T end = 8; end < 20; end++) {
+            const range<T> within = {start, end, end < 19};
             check(some.contains_range(start, end) == keys.contains_range(start, end), "contains_range");
             check(some.intersects_range(start, end) == keys.intersects_range(start, end), "intersects_range");
             for (unsigned count = 0; count < 4; count++) {
-                check(some.first_fit(start, end, count) == keys.first_fit(start, end, count), "first_fit");
-                check(some.first_fit_aligned(start, end, 1, count) == keys.first_fit_aligned(start, end, 1, count), "first_fit_aligned");
+                check(some.first_fit(within, count) == keys.first_fit(within, count), "first_fit");
+                check(some.first_fit_aligned(within, 1, count) == keys.first_fit_aligned(within, 1, count), "first_fit_aligned");
             }
         }
+    const T most = std::numeric_limits<T>::max();
+    check(some.first_fit(from(most - 1), 2) == most - 1 && !some.first_fit(from(most - 1), 3), "first_fit: the greatest key");
+    check(!map(some).insert_from(most, a).first_fit(from(most - 1), 2) && some.first_fit(9, 17, 2) == T(14), "first_fit: it has a value");
     using depth = range_map<T, unsigned char>;
     const std::vector<std::pair<T, T>> ranges = {{0, 5}, {3, 9}, {7, 7}, {4, 6}};
     check(depth::depth(ranges) == depth({{0, 3, 1}, {3, 4, 2}, {4, 5, 3}, {5, 6, 2}, {6, 9, 1}}), "depth");

@@ -20,7 +20,8 @@ template <class T> struct calls_of;
     RANGE_SET_CALL(kind, is_empty) RANGE_SET_CALL(kind, is_all) RANGE_SET_CALL(kind, ranges_len) RANGE_SET_CALL(kind, covered) \
     RANGE_SET_CALL(kind, range_at) RANGE_SET_CALL(kind, range_from) RANGE_SET_CALL(kind, first) RANGE_SET_CALL(kind, last) \
     RANGE_SET_CALL(kind, next_member) RANGE_SET_CALL(kind, next_gap) RANGE_SET_CALL(kind, prev_member) RANGE_SET_CALL(kind, prev_gap) \
-    RANGE_SET_CALL(kind, rank) RANGE_SET_CALL(kind, select) RANGE_SET_CALL(kind, first_run)
+    RANGE_SET_CALL(kind, rank) RANGE_SET_CALL(kind, select) RANGE_SET_CALL(kind, first_run) \
+    RANGE_SET_CALL(kind, intersects) RANGE_SET_CALL(kind, is_subset) RANGE_SET_CALL(kind, equal)
 #define RANGE_SET_FITS(kind) \
     RANGE_SET_CALL(kind, first_fit_from) RANGE_SET_CALL(kind, first_fit_aligned_from) RANGE_SET_CALL(kind, first_run_from)
 // These of a set in chunks change it, or what it remembers.
@@ -38,7 +39,6 @@ template <class T> struct calls_of;
         RANGE_SET_CALL(number, view) RANGE_SET_CALL(number, from_ranges) RANGE_SET_CALL(number, from_values) \
         RANGE_SET_CALL(number, members_first) RANGE_SET_CALL(number, members_last) RANGE_SET_CALL(number, members_next) \
         RANGE_SET_CALL(number, members_prev) RANGE_SET_CALL(number, get) RANGE_SET_CALL(number, split) \
-        RANGE_SET_CALL(number, is_disjoint) RANGE_SET_CALL(number, is_subset) RANGE_SET_CALL(number, equal) \
         RANGE_SET_CALL(number, combine) RANGE_SET_CALL(number, combine_with) RANGE_SET_CALL(number, union_all) \
         RANGE_SET_CALL(number, negation) RANGE_SET_CALL(number, gaps) RANGE_SET_CALL(number, contains_each) \
         RANGE_SET_CALL(number, print) RANGE_SET_CALL(number, parse) RANGE_SET_CALL(number, parse_by) RANGE_SET_CALL(number, buffer_of) \
@@ -49,6 +49,8 @@ template <class T> struct calls_of;
             RANGE_SET_QUESTIONS(number##_chunked) RANGE_SET_FITS(number##_chunked) RANGE_SET_CHANGES(number##_chunked) \
             RANGE_SET_CALL(number##_chunked, of) RANGE_SET_CALL(number##_chunked, free) RANGE_SET_CALL(number##_chunked, copy) \
             RANGE_SET_CALL(number##_chunked, insert_from) RANGE_SET_CALL(number##_chunked, remove_from) \
+            RANGE_SET_CALL(number##_chunked, intersects_list) RANGE_SET_CALL(number##_chunked, is_subset_list) \
+            RANGE_SET_CALL(number##_chunked, is_superset_list) \
             RANGE_SET_CALL(number##_chunked, combine) RANGE_SET_CALL(number##_chunked, boundaries_len) \
             RANGE_SET_CALL(number##_chunked, next_ranges) RANGE_SET_CALL(number##_chunked, overlapping) \
         }; \

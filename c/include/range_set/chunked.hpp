@@ -195,24 +195,19 @@ public:
 
     // The least number from which on `count` numbers lie in `start` to below `end` and none is a member, or nothing; and the same
     // where it is a multiple of `align`. The set remembers what it learns of its gaps.
-    std::optional<T> first_fit(integer start, integer end, amount count) noexcept
-    {
-        return detail::found<T>(calls::first_fit, &owner_.it, start, end, count);
-    }
+    std::optional<T> first_fit(integer start, integer end, amount count) noexcept { return first_fit(range<T>{start, end}, count); }
     std::optional<T> first_fit_aligned(integer start, integer end, amount count, amount align) noexcept
     {
-        return detail::found<T>(calls::first_fit_aligned, &owner_.it, start, end, count, align);
+        return first_fit_aligned(range<T>{start, end}, count, align);
     }
     // Both in a range, which may have no end.
     std::optional<T> first_fit(const range<T> &within, amount count) noexcept
     {
-        if (within.has_end) return first_fit(within.start, within.end, count);
-        return detail::found<T>(calls::first_fit_from, &owner_.it, integer(within.start), count);
+        return detail::found_in(within, calls::first_fit, calls::first_fit_from, &owner_.it, count);
     }
     std::optional<T> first_fit_aligned(const range<T> &within, amount count, amount align) noexcept
     {
-        if (within.has_end) return first_fit_aligned(within.start, within.end, count, align);
-        return detail::found<T>(calls::first_fit_aligned_from, &owner_.it, integer(within.start), count, align);
+        return detail::found_in(within, calls::first_fit_aligned, calls::first_fit_aligned_from, &owner_.it, count, align);
     }
 
     // The ranges, and those that have a number at or above another.
@@ -265,11 +260,11 @@ public:
         });
     }
 
-    // As of two lists, which are made only if there are as many ranges.
-    friend bool operator==(const chunked_range_set &a, const chunked_range_set &b) { return a.size() == b.size() && a.set() == b.set(); }
-    friend bool operator!=(const chunked_range_set &a, const chunked_range_set &b) { return !(a == b); }
+    friend bool operator==(const chunked_range_set &a, const chunked_range_set &b) noexcept { return calls::equal(a.inner(), b.inner()); }
+    friend bool operator!=(const chunked_range_set &a, const chunked_range_set &b) noexcept { return !(a == b); }
 
 private:
+    friend struct detail::either<T>;
     template <class, class, class> friend class detail::questions;
     template <class, class, class> friend class detail::changes;
 

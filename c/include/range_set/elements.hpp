@@ -193,6 +193,13 @@ std::optional<range<T>> found_range(Call call, Set set, Numbers... numbers) noex
     if (!call(set, numbers..., &part)) return std::nullopt;
     return range<T>{element<T>::out(part.start), element<T>::out(part.end), part.has_end};
 }
+// The same in a range, by the call for one that has an end, or for one that has none.
+template <class T, class Call, class Open, class Set, class... Numbers>
+std::optional<T> found_in(const range<T> &within, Call call, Open open, Set set, Numbers... numbers) noexcept
+{
+    const integer<T> start = within.start, end = within.end;
+    return within.has_end ? found<T>(call, set, start, end, numbers...) : found<T>(open, set, start, numbers...);
+}
 
 } // namespace detail
 

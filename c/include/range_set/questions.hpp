@@ -37,12 +37,15 @@ template <class T> struct operand {
 
 protected:
     explicit operand(std::optional<range_set<T>> from) : owned_(std::move(from)), set(owned_->view().set()) {}
+    explicit operand(typename chunked_calls<T>::set from) noexcept : set(), chunks(from) {}
 
 private:
     std::optional<range_set<T>> owned_;
 
 public:
     const typename calls<T>::set set;
+    // A set in chunks that is asked as it is, and then the list is empty.
+    const typename chunked_calls<T>::set chunks = {};
 };
 
 // The same, or a set in chunks, of which the call makes a list.
@@ -50,6 +53,20 @@ template <class T> struct listed : operand<T> {
     using operand<T>::operand;
     listed(const chunked_range_set<T> &from) : operand<T>(std::optional<range_set<T>>(from.set())) {}
 };
+
+// The same, and no list is made.
+template <class T> struct either : operand<T> {
+    using operand<T>::operand;
+    either(const chunked_range_set<T> &from) noexcept : operand<T>(from.inner()) {}
+};
+
+// What a call says of two sets: that for lists, that for sets in chunks, or that for one in chunks and a list, in this order or the other.
+template <class T, class Lists, class Chunks, class Before, class Behind>
+bool related(const operand<T> &a, const operand<T> &b, Lists lists, Chunks chunks, Before before, Behind behind) noexcept
+{
+    if (a.chunks.at == nullptr) return b.chunks.at == nullptr ? lists(a.set, b.set) : behind(b.chunks, a.set);
+    return b.chunks.at == nullptr ? before(a.chunks, b.set) : chunks(a.chunks, b.chunks);
+}
 
 // The operators. Two lists make a range_set, and if one set at least is in chunks, so is the result.
 template <class T, class Operand = operand<T>, class Made = range_set<T>> struct operators {
@@ -114,15 +131,11 @@ public:
     // The member with `k` others below it, or nothing.
     std::optional<T> select(detail::integer<std::uint64_t> k) const noexcept { return found<T>(Calls::select, asked(), k); }
     // The least number from which on `count` members in a row lie in `start` to below `end`, or nothing.
-    std::optional<T> first_run(integer start, integer end, amount count) const noexcept
-    {
-        return found<T>(Calls::first_run, asked(), start, end, count);
-    }
+    std::optional<T> first_run(integer start, integer end, amount count) const noexcept { return first_run(range<T>{start, end}, count); }
     // The same in a range, which may have no end: `set.first_run(from(9), 2)`.
     std::optional<T> first_run(const range<T> &within, amount count) const noexcept
     {
-        if (within.has_end) return first_run(within.start, within.end, count);
-        return found<T>(Calls::first_run_from, asked(), integer(within.start), count);
+        return found_in(within, Calls::first_run, Calls::first_run_from, asked(), count);
     }
 
 protected:
@@ -133,9 +146,10 @@ protected:
 // Whether a set is a list itself, of which no copy is made.
 template <class T, class Set> constexpr bool is_list = std::is_nothrow_constructible_v<listed<T>, const Set &>;
 
-// Questions that go over a list. A set in chunks, this one or another, is copied to one first.
+// Questions of two sets, or of many values. `contains_each` and `compare` make lists of sets in chunks.
 template <class T, class Set> class relations {
     using calls = detail::calls<T>;
+    using chunked = detail::chunked_calls<T>;
     using number = typename calls::value;
 
 public:
@@ -146,10 +160,13 @@ public:
         return calls::contains_each(list().set, reinterpret_cast<const number *>(values), count, found) == RANGE_SET_DONE;
     }
 
-    bool is_disjoint(const listed<T> &other) const noexcept(is_list<T, Set>) { return calls::is_disjoint(list().set, other.set); }
-    bool intersects(const listed<T> &other) const noexcept(is_list<T, Set>) { return !is_disjoint(other); }
-    bool is_subset(const listed<T> &other) const noexcept(is_list<T, Set>) { return calls::is_subset(list().set, other.set); }
-    bool is_superset(const listed<T> &other) const noexcept(is_list<T, Set>) { return calls::is_subset(other.set, list().set); }
+    bool is_disjoint(const either<T> &other) const noexcept { return !intersects(other); }
+    bool intersects(const either<T> &other) const noexcept
+    {
+        return related<T>(it(), other, calls::intersects, chunked::intersects, chunked::intersects_list, chunked::intersects_list);
+    }
+    bool is_subset(const either<T> &other) const noexcept { return is_part(it(), other); }
+    bool is_superset(const either<T> &other) const noexcept { return is_part(other, it()); }
 
     // Below 0 where this set comes first, above 0 where the other does, and 0 where they are equal. The first boundaries
     // that differ decide, and where there are none, the fewer boundaries. Compares at most the boundaries of the shorter set.
@@ -164,15 +181,46 @@ public:
     }
 
 private:
+    static bool is_part(const either<T> &a, const either<T> &b) noexcept
+    {
+        return related<T>(a, b, calls::is_subset, chunked::is_subset, chunked::is_subset_list, chunked::is_superset_list);
+    }
+    either<T> it() const noexcept { return static_cast<const Set &>(*this); }
     listed<T> list() const noexcept(is_list<T, Set>) { return static_cast<const Set &>(*this); }
 };
 
+// Where numbers fit beside the members of a list, or the keys of a map.
+template <class T, class Set, class Calls> class room_questions {
+    using integer = detail::integer<T>;
+    using amount = detail::amount<T>;
+
+public:
+    // The least number from which on `count` numbers lie in `start` to below `end` and none is a member, or a key that has a value; or
+    // nothing. Each looks at the ranges from `start` on, up to the answer.
+    std::optional<T> first_fit(integer start, integer end, amount count) const noexcept { return first_fit(range<T>{start, end}, count); }
+    // The same, but only where the first is a multiple of `align`, above 0 or below.
+    std::optional<T> first_fit_aligned(integer start, integer end, amount count, amount align) const noexcept
+    {
+        return first_fit_aligned(range<T>{start, end}, count, align);
+    }
+    // Both in a range, which may have no end: `set.first_fit(from(9), 2)`.
+    std::optional<T> first_fit(const range<T> &within, amount count) const noexcept
+    {
+        return found_in(within, Calls::first_fit, Calls::first_fit_from, static_cast<const Set &>(*this).inner(), count);
+    }
+    std::optional<T> first_fit_aligned(const range<T> &within, amount count, amount align) const noexcept
+    {
+        const auto set = static_cast<const Set &>(*this).inner();
+        return found_in(within, Calls::first_fit_aligned, Calls::first_fit_aligned_from, set, count, align);
+    }
+};
+
 // Questions of lists beside these: of sets and views.
-template <class T, class Set> class list_questions : public questions<T, Set, calls<T>>, public relations<T, Set> {
+template <class T, class Set>
+class list_questions : public questions<T, Set, calls<T>>, public relations<T, Set>, public room_questions<T, Set, calls<T>> {
     using calls = detail::calls<T>;
     using number = typename calls::value;
     using integer = detail::integer<T>;
-    using amount = detail::amount<T>;
 
 public:
     // The numbers from `start` to below `end` that are no members, those that are, and all that are none. The first two pass over
@@ -194,28 +242,6 @@ public:
         const auto set = this->asked();
         return range_set<T>::written(
             set.len + 1, [&](number *out, std::size_t room, auto *others) { return calls::negation(set, out, room, others); });
-    }
-
-    // The least number from which on `count` numbers lie in `start` to below `end` and none is a member, or nothing.
-    std::optional<T> first_fit(integer start, integer end, amount count) const noexcept
-    {
-        return found<T>(calls::first_fit, this->asked(), start, end, count);
-    }
-    // The same, but only where the first is a multiple of `align`, above 0 or below.
-    std::optional<T> first_fit_aligned(integer start, integer end, amount count, amount align) const noexcept
-    {
-        return found<T>(calls::first_fit_aligned, this->asked(), start, end, count, align);
-    }
-    // Both in a range, which may have no end: `set.first_fit(from(9), 2)`.
-    std::optional<T> first_fit(const range<T> &within, amount count) const noexcept
-    {
-        if (within.has_end) return first_fit(within.start, within.end, count);
-        return found<T>(calls::first_fit_from, this->asked(), integer(within.start), count);
-    }
-    std::optional<T> first_fit_aligned(const range<T> &within, amount count, amount align) const noexcept
-    {
-        if (within.has_end) return first_fit_aligned(within.start, within.end, count, align);
-        return found<T>(calls::first_fit_aligned_from, this->asked(), integer(within.start), count, align);
     }
 
     // The ranges as a text, "0..10, 20..".

@@ -251,6 +251,7 @@ public:
 
 private:
     template <class, class, class> friend class detail::questions;
+    template <class, class, class> friend class detail::room_questions;
     template <class, class> friend class detail::list_questions;
     template <class, class, class> friend class detail::changes;
     friend class chunked_range_set<T>;
@@ -331,6 +332,12 @@ private:
     array items_;
     typename calls::buffer in_ = calls::buffer_of(nullptr, 0);
 };
+
+// A range as a text: "9..12", or "20.." without an end.
+template <class T> std::ostream &operator<<(std::ostream &out, const range<T> &it)
+{
+    return out << range_set<T>{it};
+}
 
 } // namespace range_sets
 

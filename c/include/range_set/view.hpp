@@ -201,6 +201,7 @@ public:
 
 private:
     template <class, class, class> friend class detail::questions;
+    template <class, class, class> friend class detail::room_questions;
 
     typename calls::set inner() const noexcept { return set_; }
 
