@@ -46,11 +46,8 @@
  * names, and are described once for each. tools/c-types says how to have another type.
  *
  * In the library for x86-64 Linux the calls are proved, but for the layer in C before them (range_set.c), which finds
- * null pointers and overlap, makes the statuses, owns sets, takes memory from an allocator, and makes of other calls
- * union_all, from_values, parse, parse_by, chunked_next, chunked_next_ranges, chunked_gaps, chunked_from_values,
- * chunked_print, chunked_combine, chunked_combine_chunked, what ends with _changed, and of maps `next`, `next_ranges`,
- * `overlapping`, `of`, `copy`, `first`, `last`, `span`, `gaps`, `covered`, what begins with `first_fit`, and keys of 32
- * bits. That is tested, as is what cargo builds for other machines, under the same layer.
+ * null pointers and overlap, makes the statuses, owns sets, takes memory from an allocator, and makes some calls of
+ * others, which README.md names. That is tested, as is what cargo builds for other machines, under the same layer.
  */
 #ifndef RANGE_SET_H
 #define RANGE_SET_H

@@ -20,14 +20,13 @@ template <class T> struct calls_of;
     RANGE_SET_CALL(kind, is_empty) RANGE_SET_CALL(kind, is_all) RANGE_SET_CALL(kind, ranges_len) RANGE_SET_CALL(kind, covered) \
     RANGE_SET_CALL(kind, range_at) RANGE_SET_CALL(kind, range_from) RANGE_SET_CALL(kind, first) RANGE_SET_CALL(kind, last) \
     RANGE_SET_CALL(kind, next_member) RANGE_SET_CALL(kind, next_gap) RANGE_SET_CALL(kind, prev_member) RANGE_SET_CALL(kind, prev_gap) \
-    RANGE_SET_CALL(kind, rank) RANGE_SET_CALL(kind, select) RANGE_SET_CALL(kind, first_run) \
+    RANGE_SET_CALL(kind, rank) RANGE_SET_CALL(kind, select) RANGE_SET_CALL(kind, first_run) RANGE_SET_CALL(kind, first_run_from) \
     RANGE_SET_CALL(kind, intersects) RANGE_SET_CALL(kind, is_subset) RANGE_SET_CALL(kind, equal)
-#define RANGE_SET_FITS(kind) \
-    RANGE_SET_CALL(kind, first_fit_from) RANGE_SET_CALL(kind, first_fit_aligned_from) RANGE_SET_CALL(kind, first_run_from)
 // These of a set in chunks change it, or what it remembers.
 #define RANGE_SET_CHANGES(kind) \
     RANGE_SET_CALL(kind, insert) RANGE_SET_CALL(kind, remove) RANGE_SET_CALL(kind, first_fit) RANGE_SET_CALL(kind, first_fit_aligned) \
-    RANGE_SET_CALL(kind, insert_changed) RANGE_SET_CALL(kind, remove_changed)
+    RANGE_SET_CALL(kind, first_fit_from) RANGE_SET_CALL(kind, first_fit_aligned_from) RANGE_SET_CALL(kind, insert_changed) \
+    RANGE_SET_CALL(kind, remove_changed)
 #define RANGE_SET_CALLS(number, T) \
     template <> struct calls_of<T> { \
         using value = T; \
@@ -35,7 +34,7 @@ template <class T> struct calls_of;
         using part = range_set_##number##_range; \
         using buffer = range_set_##number##_buffer; \
         using members = range_set_##number##_members; \
-        RANGE_SET_QUESTIONS(number) RANGE_SET_FITS(number) RANGE_SET_CHANGES(number) \
+        RANGE_SET_QUESTIONS(number) RANGE_SET_CHANGES(number) \
         RANGE_SET_CALL(number, view) RANGE_SET_CALL(number, from_ranges) RANGE_SET_CALL(number, from_values) \
         RANGE_SET_CALL(number, members_first) RANGE_SET_CALL(number, members_last) RANGE_SET_CALL(number, members_next) \
         RANGE_SET_CALL(number, members_prev) RANGE_SET_CALL(number, get) RANGE_SET_CALL(number, split) \
@@ -46,7 +45,7 @@ template <class T> struct calls_of;
             using set = range_set_##number##_chunked; \
             using owned = set; \
             static constexpr auto make = range_set_##number##_chunked_new; \
-            RANGE_SET_QUESTIONS(number##_chunked) RANGE_SET_FITS(number##_chunked) RANGE_SET_CHANGES(number##_chunked) \
+            RANGE_SET_QUESTIONS(number##_chunked) RANGE_SET_CHANGES(number##_chunked) \
             RANGE_SET_CALL(number##_chunked, of) RANGE_SET_CALL(number##_chunked, free) RANGE_SET_CALL(number##_chunked, copy) \
             RANGE_SET_CALL(number##_chunked, insert_from) RANGE_SET_CALL(number##_chunked, remove_from) \
             RANGE_SET_CALL(number##_chunked, intersects_list) RANGE_SET_CALL(number##_chunked, is_subset_list) \
@@ -61,7 +60,6 @@ RANGE_SET_CALLS(i64, std::int64_t)
 RANGE_SET_CALLS(u64, std::uint64_t)
 #undef RANGE_SET_CALLS
 #undef RANGE_SET_CHANGES
-#undef RANGE_SET_FITS
 #undef RANGE_SET_QUESTIONS
 #undef RANGE_SET_CALL
 
