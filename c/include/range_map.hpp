@@ -4,7 +4,7 @@
 //     using range_sets::range_map;
 //     range_map<int64_t, std::string> bookings = {{9, 12, "Ada"}};
 //     bookings.insert(11, 14, "Bob");
-//     for (const auto &[hours, who] : bookings) std::cout << hours.start << ".." << hours.end << ' ' << who << '\n';
+//     for (const auto &[hours, who] : bookings) std::cout << hours << ' ' << who << '\n';
 //     if (bookings.get(10) == "Ada") std::cout << "Ada at ten\n";
 //
 // A key has the value of the last range that was put around it, or none; ranges that touch and have one value are one. Keys are the

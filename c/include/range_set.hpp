@@ -5,7 +5,7 @@
 //     using range_sets::range_set, range_sets::from;
 //     const range_set<int64_t> day = {{9, 17}}, busy = {{9, 11}, {12, 15}};
 //     auto free = day - busy;                              // 11 to 12, and 15 to 17
-//     for (auto [start, end, has_end] : free) std::cout << start << ".." << end << '\n';
+//     for (const auto &it : free) std::cout << it << '\n';
 //     std::cout << free << '\n';                           // 11..12, 15..17
 //     if (free.contains(16)) std::cout << "free at four\n";
 //     free.remove({15, 16}).insert(from(20));              // 11 to 12, 16 to 17, and all from 20 on
