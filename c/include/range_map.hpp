@@ -31,29 +31,6 @@ namespace range_sets {
 
 namespace detail {
 
-// The calls of the header for one of its types of keys.
-template <class Key> struct map_calls;
-
-#define RANGE_MAP_CALL(number, call) static constexpr auto call = range_map_##number##_##call;
-#define RANGE_MAP_CALLS(number, Key) \
-    template <> struct map_calls<Key> { \
-        using owned = range_map_##number; \
-        using stretch = range_map_##number##_stretch; \
-        static constexpr auto make = range_map_##number##_new; \
-        RANGE_MAP_CALL(number, free) RANGE_MAP_CALL(number, copy) RANGE_MAP_CALL(number, len) RANGE_MAP_CALL(number, range_at) \
-        RANGE_MAP_CALL(number, insert) RANGE_MAP_CALL(number, insert_from) RANGE_MAP_CALL(number, remove) RANGE_MAP_CALL(number, remove_from) \
-        RANGE_MAP_CALL(number, first) RANGE_MAP_CALL(number, last) RANGE_MAP_CALL(number, span) RANGE_MAP_CALL(number, covered) \
-        RANGE_MAP_CALL(number, next) RANGE_MAP_CALL(number, next_ranges) \
-        RANGE_MAP_CALL(number, first_fit) RANGE_MAP_CALL(number, first_fit_from) \
-        RANGE_MAP_CALL(number, first_fit_aligned) RANGE_MAP_CALL(number, first_fit_aligned_from) \
-    };
-RANGE_MAP_CALLS(i32, std::int32_t)
-RANGE_MAP_CALLS(u32, std::uint32_t)
-RANGE_MAP_CALLS(i64, std::int64_t)
-RANGE_MAP_CALLS(u64, std::uint64_t)
-#undef RANGE_MAP_CALLS
-#undef RANGE_MAP_CALL
-
 // For an iterator over ranges with their values.
 template <class T, class V, class Iterator>
 using if_entries = std::enable_if_t<std::is_convertible_v<decltype(std::declval<const item_of<Iterator> &>().first), ends<T>>
@@ -62,10 +39,10 @@ using if_entries = std::enable_if_t<std::is_convertible_v<decltype(std::declval<
 } // namespace detail
 
 template <class T, class V>
-class range_map : public detail::room_questions<T, range_map<T, V>, detail::map_calls<typename detail::element<T>::number>> {
+class range_map : public detail::room_questions<T, range_map<T, V>, detail::map_calls<T>> {
     using element = detail::element<T>;
     using key = typename element::number;
-    using calls = detail::map_calls<key>;
+    using calls = detail::map_calls<T>;
     using numbers = detail::values<V>;
     using integer = detail::integer<T>;
 

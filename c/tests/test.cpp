@@ -646,6 +646,8 @@ template <class T> static void chunked_as_lists()
     check(!chunks{{1, 4}}.contains_each(nullptr, 1, &within), "chunked: contains_each of null");
     chunks top, none;
     top.insert_from(static_cast<T>(std::numeric_limits<T>::max() - 1));
+    check(none.is_subset(top) && !top.is_subset(none) && none.is_disjoint(top) && none.is_superset({}) && none == chunks() && top != none,
+        "chunked: before the first change");
     const auto members = top.members();
     auto it = members.begin();
     check(*it++ == std::numeric_limits<T>::max() - 1 && it != members.end() && *it == std::numeric_limits<T>::max(), "chunked: open");

@@ -11,10 +11,12 @@ namespace range_sets {
 
 namespace detail {
 
-// The calls of the header for one of its types of numbers, and in `chunked` those of sets in chunks, by the same names.
+// The calls of the header for one of its types of numbers, and those of sets in chunks and of maps in `chunked` and `mapped`, by the
+// same names.
 template <class T> struct calls_of;
 
 #define RANGE_SET_CALL(kind, call) static constexpr auto call = range_set_##kind##_##call;
+#define RANGE_MAP_CALL(kind, call) static constexpr auto call = range_map_##kind##_##call;
 #define RANGE_SET_QUESTIONS(kind) \
     RANGE_SET_CALL(kind, contains) RANGE_SET_CALL(kind, contains_range) RANGE_SET_CALL(kind, intersects_range) \
     RANGE_SET_CALL(kind, is_empty) RANGE_SET_CALL(kind, is_all) RANGE_SET_CALL(kind, ranges_len) RANGE_SET_CALL(kind, covered) \
@@ -53,6 +55,17 @@ template <class T> struct calls_of;
             RANGE_SET_CALL(number##_chunked, combine) RANGE_SET_CALL(number##_chunked, boundaries_len) \
             RANGE_SET_CALL(number##_chunked, next_ranges) RANGE_SET_CALL(number##_chunked, overlapping) \
         }; \
+        struct mapped { \
+            using owned = range_map_##number; \
+            using stretch = range_map_##number##_stretch; \
+            static constexpr auto make = range_map_##number##_new; \
+            RANGE_MAP_CALL(number, free) RANGE_MAP_CALL(number, copy) RANGE_MAP_CALL(number, len) RANGE_MAP_CALL(number, covered) \
+            RANGE_MAP_CALL(number, insert) RANGE_MAP_CALL(number, insert_from) RANGE_MAP_CALL(number, remove) \
+            RANGE_MAP_CALL(number, remove_from) RANGE_MAP_CALL(number, range_at) RANGE_MAP_CALL(number, next) \
+            RANGE_MAP_CALL(number, next_ranges) RANGE_MAP_CALL(number, first) RANGE_MAP_CALL(number, last) RANGE_MAP_CALL(number, span) \
+            RANGE_MAP_CALL(number, first_fit) RANGE_MAP_CALL(number, first_fit_from) RANGE_MAP_CALL(number, first_fit_aligned) \
+            RANGE_MAP_CALL(number, first_fit_aligned_from) \
+        }; \
     };
 RANGE_SET_CALLS(i32, std::int32_t)
 RANGE_SET_CALLS(u32, std::uint32_t)
@@ -61,6 +74,7 @@ RANGE_SET_CALLS(u64, std::uint64_t)
 #undef RANGE_SET_CALLS
 #undef RANGE_SET_CHANGES
 #undef RANGE_SET_QUESTIONS
+#undef RANGE_MAP_CALL
 #undef RANGE_SET_CALL
 
 } // namespace detail

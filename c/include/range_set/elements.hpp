@@ -99,9 +99,10 @@ template <class T> constexpr T greatest() noexcept
     return element<T>::out(std::numeric_limits<typename element<T>::number>::max());
 }
 
-// The calls for a type of elements, and those of sets in chunks.
+// The calls for a type of elements, and those of sets in chunks and of maps.
 template <class T> struct calls : calls_of<typename element<T>::number> {};
 template <class T> using chunked_calls = typename calls<T>::chunked;
+template <class T> using map_calls = typename calls<T>::mapped;
 
 // Whether a call takes such a number: an integer, or what becomes an element and doesn't narrow.
 template <class T, class Number, class = void> constexpr bool narrows = true;

@@ -110,7 +110,6 @@ template <class T> class range_set_view : detail::operators<T>, public detail::l
     using calls = detail::calls<T>;
     using number = typename calls::value;
     using integer = detail::integer<T>;
-    using amount = detail::amount<T>;
 
 public:
     using value_type = range<T>;
