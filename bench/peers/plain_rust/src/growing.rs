@@ -83,7 +83,7 @@ impl Growing for ChunkedSpace<i64> {
     }
 
     fn contains(&self, value: i64) -> bool {
-        self.contains(&value)
+        ChunkedRangeSet::contains(self, &value)
     }
 
     fn ranges(&self, each: impl FnMut(Range<i64>)) {
