@@ -1183,6 +1183,24 @@ class Meanwhile(unittest.TestCase):
                     call()
                     self.see_whole(made)
 
+    def test_a_map_made_anew_while_it_is_read(self):
+        """What reads a list goes on by keys, and not by its place in a list that is new."""
+
+        def anew():
+            made.clear()
+            made.update([((5, 6), "a"), ((60, 70), "b"), ((80, 90), "c")])
+
+        made = RangeMap([((0, 10), 1), ((20, 30), 2), ((40, 50), 3)])
+        left = made.items()
+        next(left)
+        anew()
+        self.assertEqual(list(left), [((60, 70), "b"), ((80, 90), "c")])
+        value = Changing(None)
+        made = RangeMap([((2 * n, 2 * n + 1), n) for n in range(20)] + [((40, 41), value)])
+        value.change = anew
+        self.assertEqual(made.find(Changing(None)), RangeSet([(40, 41)]))
+        self.see_whole(made)
+
     def test_changes_while_maps_are_combined(self):
         """The function, and an `==` of what it makes, may change both maps, make more of them, or raise an error."""
 

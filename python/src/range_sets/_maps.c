@@ -32,6 +32,8 @@ static void read_some(Steps *self, Walk *walk)
 
 bool step_on(Steps *self, Walk *walk, Stretch *it)
 {
+    /* A list that the map gets later isn't that of the walk's place. */
+    walk->is_listed = false;
     if (!walk->is_done && (walk->at == walk->len || walk->changes != self->changes)) read_some(self, walk);
     walk->is_done = walk->is_done || walk->at == walk->len;
     if (walk->is_done) return false;
