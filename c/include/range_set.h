@@ -425,7 +425,7 @@ RANGE_SET_STATUS range_set_i32_parse_by(const char *text, size_t text_len, char 
 /* Whether there is a number from which on `count` numbers lie in `start` to below `end` and none of them is a member,
  * and then the least one: the first place where they fit. Where there is none `first` is as it was. It may be null.
  * A count of 0 fits at `start`, if end >= start. With `_from` they may lie anywhere from `start` on, up to the greatest
- * number. Looks at each boundary from `start` on, up to the answer. */
+ * number. Looks at each boundary from `start` on, up to the result. */
 bool range_set_i32_first_fit(range_set_i32 set, int32_t start, int32_t end, uint32_t count, int32_t *first);
 bool range_set_i32_first_fit_from(range_set_i32 set, int32_t start, uint32_t count, int32_t *first);
 
@@ -436,7 +436,7 @@ bool range_set_i32_first_fit_aligned_from(range_set_i32 set, int32_t start, uint
                                           int32_t *first);
 
 /* Whether `count` members in a row lie in `start` to below `end`, and then the least number that such begin with. Else,
- * and with a count of 0, as `first_fit`. Looks at each boundary from `start` on, up to the answer. */
+ * and with a count of 0, as `first_fit`. Looks at each boundary from `start` on, up to the result. */
 bool range_set_i32_first_run(range_set_i32 set, int32_t start, int32_t end, uint32_t count, int32_t *first);
 bool range_set_i32_first_run_from(range_set_i32 set, int32_t start, uint32_t count, int32_t *first);
 
@@ -595,7 +595,7 @@ bool range_set_i32_chunked_prev_member(range_set_i32_chunked set, int32_t from, 
 bool range_set_i32_chunked_prev_gap(range_set_i32_chunked set, int32_t from, int32_t *previous);
 
 /* As the calls of these names for lists, of two sets in chunks, and with `_list` of one and a list. Each makes a search
- * in the set of more boundaries for each range of the other, up to the answer; `chunked_equal` goes over both. */
+ * in the set of more boundaries for each range of the other, up to the result; `chunked_equal` goes over both. */
 bool range_set_i32_chunked_intersects(range_set_i32_chunked a, range_set_i32_chunked b);
 bool range_set_i32_chunked_is_subset(range_set_i32_chunked a, range_set_i32_chunked b);
 bool range_set_i32_chunked_equal(range_set_i32_chunked a, range_set_i32_chunked b);
@@ -651,7 +651,7 @@ bool range_set_i32_chunked_first_fit_aligned(range_set_i32_chunked *set, int32_t
 bool range_set_i32_chunked_first_fit_aligned_from(range_set_i32_chunked *set, int32_t start, uint32_t count,
                                                   uint32_t align, int32_t *first);
 
-/* As `first_run`. It remembers nothing, and looks at each range from `start` on, up to the answer. */
+/* As `first_run`. It remembers nothing, and looks at each range from `start` on, up to the result. */
 bool range_set_i32_chunked_first_run(range_set_i32_chunked set, int32_t start, int32_t end, uint32_t count,
                                      int32_t *first);
 bool range_set_i32_chunked_first_run_from(range_set_i32_chunked set, int32_t start, uint32_t count, int32_t *first);
@@ -1091,7 +1091,7 @@ RANGE_SET_STATUS range_set_u32_parse_by(const char *text, size_t text_len, char 
 /* Whether there is a number from which on `count` numbers lie in `start` to below `end` and none of them is a member,
  * and then the least one: the first place where they fit. Where there is none `first` is as it was. It may be null.
  * A count of 0 fits at `start`, if end >= start. With `_from` they may lie anywhere from `start` on, up to the greatest
- * number. Looks at each boundary from `start` on, up to the answer. */
+ * number. Looks at each boundary from `start` on, up to the result. */
 bool range_set_u32_first_fit(range_set_u32 set, uint32_t start, uint32_t end, uint32_t count, uint32_t *first);
 bool range_set_u32_first_fit_from(range_set_u32 set, uint32_t start, uint32_t count, uint32_t *first);
 
@@ -1102,7 +1102,7 @@ bool range_set_u32_first_fit_aligned_from(range_set_u32 set, uint32_t start, uin
                                           uint32_t *first);
 
 /* Whether `count` members in a row lie in `start` to below `end`, and then the least number that such begin with. Else,
- * and with a count of 0, as `first_fit`. Looks at each boundary from `start` on, up to the answer. */
+ * and with a count of 0, as `first_fit`. Looks at each boundary from `start` on, up to the result. */
 bool range_set_u32_first_run(range_set_u32 set, uint32_t start, uint32_t end, uint32_t count, uint32_t *first);
 bool range_set_u32_first_run_from(range_set_u32 set, uint32_t start, uint32_t count, uint32_t *first);
 
@@ -1261,7 +1261,7 @@ bool range_set_u32_chunked_prev_member(range_set_u32_chunked set, uint32_t from,
 bool range_set_u32_chunked_prev_gap(range_set_u32_chunked set, uint32_t from, uint32_t *previous);
 
 /* As the calls of these names for lists, of two sets in chunks, and with `_list` of one and a list. Each makes a search
- * in the set of more boundaries for each range of the other, up to the answer; `chunked_equal` goes over both. */
+ * in the set of more boundaries for each range of the other, up to the result; `chunked_equal` goes over both. */
 bool range_set_u32_chunked_intersects(range_set_u32_chunked a, range_set_u32_chunked b);
 bool range_set_u32_chunked_is_subset(range_set_u32_chunked a, range_set_u32_chunked b);
 bool range_set_u32_chunked_equal(range_set_u32_chunked a, range_set_u32_chunked b);
@@ -1317,7 +1317,7 @@ bool range_set_u32_chunked_first_fit_aligned(range_set_u32_chunked *set, uint32_
 bool range_set_u32_chunked_first_fit_aligned_from(range_set_u32_chunked *set, uint32_t start, uint32_t count,
                                                   uint32_t align, uint32_t *first);
 
-/* As `first_run`. It remembers nothing, and looks at each range from `start` on, up to the answer. */
+/* As `first_run`. It remembers nothing, and looks at each range from `start` on, up to the result. */
 bool range_set_u32_chunked_first_run(range_set_u32_chunked set, uint32_t start, uint32_t end, uint32_t count,
                                      uint32_t *first);
 bool range_set_u32_chunked_first_run_from(range_set_u32_chunked set, uint32_t start, uint32_t count, uint32_t *first);
@@ -1757,7 +1757,7 @@ RANGE_SET_STATUS range_set_i64_parse_by(const char *text, size_t text_len, char 
 /* Whether there is a number from which on `count` numbers lie in `start` to below `end` and none of them is a member,
  * and then the least one: the first place where they fit. Where there is none `first` is as it was. It may be null.
  * A count of 0 fits at `start`, if end >= start. With `_from` they may lie anywhere from `start` on, up to the greatest
- * number. Looks at each boundary from `start` on, up to the answer. */
+ * number. Looks at each boundary from `start` on, up to the result. */
 bool range_set_i64_first_fit(range_set_i64 set, int64_t start, int64_t end, uint64_t count, int64_t *first);
 bool range_set_i64_first_fit_from(range_set_i64 set, int64_t start, uint64_t count, int64_t *first);
 
@@ -1768,7 +1768,7 @@ bool range_set_i64_first_fit_aligned_from(range_set_i64 set, int64_t start, uint
                                           int64_t *first);
 
 /* Whether `count` members in a row lie in `start` to below `end`, and then the least number that such begin with. Else,
- * and with a count of 0, as `first_fit`. Looks at each boundary from `start` on, up to the answer. */
+ * and with a count of 0, as `first_fit`. Looks at each boundary from `start` on, up to the result. */
 bool range_set_i64_first_run(range_set_i64 set, int64_t start, int64_t end, uint64_t count, int64_t *first);
 bool range_set_i64_first_run_from(range_set_i64 set, int64_t start, uint64_t count, int64_t *first);
 
@@ -1927,7 +1927,7 @@ bool range_set_i64_chunked_prev_member(range_set_i64_chunked set, int64_t from, 
 bool range_set_i64_chunked_prev_gap(range_set_i64_chunked set, int64_t from, int64_t *previous);
 
 /* As the calls of these names for lists, of two sets in chunks, and with `_list` of one and a list. Each makes a search
- * in the set of more boundaries for each range of the other, up to the answer; `chunked_equal` goes over both. */
+ * in the set of more boundaries for each range of the other, up to the result; `chunked_equal` goes over both. */
 bool range_set_i64_chunked_intersects(range_set_i64_chunked a, range_set_i64_chunked b);
 bool range_set_i64_chunked_is_subset(range_set_i64_chunked a, range_set_i64_chunked b);
 bool range_set_i64_chunked_equal(range_set_i64_chunked a, range_set_i64_chunked b);
@@ -1983,7 +1983,7 @@ bool range_set_i64_chunked_first_fit_aligned(range_set_i64_chunked *set, int64_t
 bool range_set_i64_chunked_first_fit_aligned_from(range_set_i64_chunked *set, int64_t start, uint64_t count,
                                                   uint64_t align, int64_t *first);
 
-/* As `first_run`. It remembers nothing, and looks at each range from `start` on, up to the answer. */
+/* As `first_run`. It remembers nothing, and looks at each range from `start` on, up to the result. */
 bool range_set_i64_chunked_first_run(range_set_i64_chunked set, int64_t start, int64_t end, uint64_t count,
                                      int64_t *first);
 bool range_set_i64_chunked_first_run_from(range_set_i64_chunked set, int64_t start, uint64_t count, int64_t *first);
@@ -2423,7 +2423,7 @@ RANGE_SET_STATUS range_set_u64_parse_by(const char *text, size_t text_len, char 
 /* Whether there is a number from which on `count` numbers lie in `start` to below `end` and none of them is a member,
  * and then the least one: the first place where they fit. Where there is none `first` is as it was. It may be null.
  * A count of 0 fits at `start`, if end >= start. With `_from` they may lie anywhere from `start` on, up to the greatest
- * number. Looks at each boundary from `start` on, up to the answer. */
+ * number. Looks at each boundary from `start` on, up to the result. */
 bool range_set_u64_first_fit(range_set_u64 set, uint64_t start, uint64_t end, uint64_t count, uint64_t *first);
 bool range_set_u64_first_fit_from(range_set_u64 set, uint64_t start, uint64_t count, uint64_t *first);
 
@@ -2434,7 +2434,7 @@ bool range_set_u64_first_fit_aligned_from(range_set_u64 set, uint64_t start, uin
                                           uint64_t *first);
 
 /* Whether `count` members in a row lie in `start` to below `end`, and then the least number that such begin with. Else,
- * and with a count of 0, as `first_fit`. Looks at each boundary from `start` on, up to the answer. */
+ * and with a count of 0, as `first_fit`. Looks at each boundary from `start` on, up to the result. */
 bool range_set_u64_first_run(range_set_u64 set, uint64_t start, uint64_t end, uint64_t count, uint64_t *first);
 bool range_set_u64_first_run_from(range_set_u64 set, uint64_t start, uint64_t count, uint64_t *first);
 
@@ -2593,7 +2593,7 @@ bool range_set_u64_chunked_prev_member(range_set_u64_chunked set, uint64_t from,
 bool range_set_u64_chunked_prev_gap(range_set_u64_chunked set, uint64_t from, uint64_t *previous);
 
 /* As the calls of these names for lists, of two sets in chunks, and with `_list` of one and a list. Each makes a search
- * in the set of more boundaries for each range of the other, up to the answer; `chunked_equal` goes over both. */
+ * in the set of more boundaries for each range of the other, up to the result; `chunked_equal` goes over both. */
 bool range_set_u64_chunked_intersects(range_set_u64_chunked a, range_set_u64_chunked b);
 bool range_set_u64_chunked_is_subset(range_set_u64_chunked a, range_set_u64_chunked b);
 bool range_set_u64_chunked_equal(range_set_u64_chunked a, range_set_u64_chunked b);
@@ -2649,7 +2649,7 @@ bool range_set_u64_chunked_first_fit_aligned(range_set_u64_chunked *set, uint64_
 bool range_set_u64_chunked_first_fit_aligned_from(range_set_u64_chunked *set, uint64_t start, uint64_t count,
                                                   uint64_t align, uint64_t *first);
 
-/* As `first_run`. It remembers nothing, and looks at each range from `start` on, up to the answer. */
+/* As `first_run`. It remembers nothing, and looks at each range from `start` on, up to the result. */
 bool range_set_u64_chunked_first_run(range_set_u64_chunked set, uint64_t start, uint64_t end, uint64_t count,
                                      uint64_t *first);
 bool range_set_u64_chunked_first_run_from(range_set_u64_chunked set, uint64_t start, uint64_t count, uint64_t *first);

@@ -28,7 +28,7 @@
 
 #include "range_set/calls.hpp"     // the calls of range_set.h by the type of their numbers
 #include "range_set/elements.hpp"  // elements as numbers, and what is thrown
-#include "range_set/questions.hpp" // what sets answer, and operators
+#include "range_set/questions.hpp" // the questions of sets, and operators
 #include "range_set/view.hpp"      // range_set_view, iterators, the hash
 #include "range_set/set.hpp"       // range_set
 #include "range_set/chunked.hpp"   // chunked_range_set

@@ -196,7 +196,7 @@ template <class T, class Set, class Calls> class room_questions {
 
 public:
     // The least number from which on `count` numbers lie in `start` to below `end` and none is a member, or a key that has a value; or
-    // nothing. Each looks at the ranges from `start` on, up to the answer.
+    // nothing. Each looks at the ranges from `start` on, up to the result.
     std::optional<T> first_fit(integer start, integer end, amount count) const noexcept { return first_fit(range<T>{start, end}, count); }
     // The same, but only where the first is a multiple of `align`, above 0 or below.
     std::optional<T> first_fit_aligned(integer start, integer end, amount count, amount align) const noexcept

@@ -97,7 +97,7 @@ class Fits(Questions[E]):
         """The first element from `start` on where `length` elements before `end` are no members, or None if there is none. For times
         and dates the length is a `timedelta`.
 
-        Cost: goes over the ranges up to the answer; a `MutableRangeSet` remembers which gaps are short.
+        Cost: goes over the ranges up to the result; a `MutableRangeSet` remembers which gaps are short.
 
         >>> RangeSet([(0, 10), (12, 20)]).first_fit(3, 0)
         20
@@ -119,7 +119,7 @@ class Fits(Questions[E]):
         """The first element from `start` on where `length` elements before `end` are all members, or None if there is none. For times
         and dates the length is a `timedelta`.
 
-        Cost: goes over the ranges up to the answer.
+        Cost: goes over the ranges up to the result.
 
         >>> RangeSet([(0, 10), (12, 30)]).first_run(12)
         12

@@ -198,7 +198,7 @@ class Questions(Operators[E]):
         """The member with `k` others below it, or None if no more than `k` are members. Floats, IPv6 addresses and
         values that sort can't be counted.
 
-        Cost: goes over the ranges up to the answer.
+        Cost: goes over the ranges up to the result.
 
         >>> s = RangeSet([(0, 10), (20, None)])
         >>> s.select(0), s.select(12), RangeSet([(0, 10)]).select(10)
