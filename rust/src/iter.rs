@@ -143,6 +143,8 @@ impl<I: DoubleEndedIterator> DoubleEndedIterator for Ranges<I> {
 
 impl<I: ExactSizeIterator> ExactSizeIterator for Ranges<I> {}
 
+impl<I: core::iter::FusedIterator> core::iter::FusedIterator for Ranges<I> {}
+
 adapted_ranges! {
     ['a, T] Iter<'a, T>;
     ['a, T: 'a, I: Iterator<Item = RangeSetRange<&'a T>>] Ranges<I>;
