@@ -62,7 +62,7 @@ size_t NAME(overlapping)(MAP map, NUMBER start, NUMBER end, STRETCH *out, size_t
 size_t NAME(next_ranges)(MAP map, NUMBER from, STRETCH *out, size_t room)
 {
     size_t len = NAME(write_ranges)(map, from, GREATEST, out, room);
-    if (out != NULL && len < room && (len == 0 || out[len - 1].has_end)) {
+    if (is_array(out, room, sizeof *out) && len < room && (len == 0 || out[len - 1].has_end)) {
         const STRETCH last = NAME(around)(map, GREATEST);
         if (last.has_value) out[len++] = last;
     }

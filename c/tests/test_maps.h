@@ -37,7 +37,8 @@ static void TEST(next_ranges)(MAP map, const uint64_t *values)
     }
     check(!more, "next: past the last range");
     check(found == (ranges < room ? ranges : room), "next_ranges: how many");
-    check(MAP_CALL(next_ranges)((MAP){NULL}, LEAST, some, POINTS) == 0 && MAP_CALL(next_ranges)(map, LEAST, NULL, 1) == 0,
+    check(MAP_CALL(next_ranges)((MAP){NULL}, LEAST, some, POINTS) == 0 && MAP_CALL(next_ranges)(map, LEAST, NULL, 1) == 0
+              && MAP_CALL(next_ranges)(map, LEAST, some, SIZE_MAX) == 0,
         "next_ranges: no map, no buffer");
     it.value = 77;
     check(!MAP_CALL(next)((MAP){NULL}, LEAST, &it) && it.value == 77, "next: no map");
