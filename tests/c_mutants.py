@@ -427,7 +427,7 @@ HELD = [
     Mutant("next ranges are some", MAPS, "while (found == 2 * some && len < room);", "while (false);"),
     Mutant("the greatest key has no next range", MAPS, "if (last.has_value) out[len++] = last;", "(void)last;"),
     Mutant("the last range is next twice", MAPS, " && (len == 0 || out[len - 1].has_end)) {", ") {"),
-    Mutant("next ranges are written to no buffer", MAPS, "if (out != NULL && len < room", "if (len < room"),
+    Mutant("next ranges are written to no buffer", MAPS, "if (is_array(out, room, sizeof *out) && len < room", "if (len < room"),
     Mutant("the last range has an end", MAPS, "const bool has_end = 2 * i + 1 < found;", "const bool has_end = true;"),
     Mutant("next ranges go on from the last start", MAPS, "from = has_end ? ends[2 * i + 1] : 0;", "from = has_end ? ends[2 * i] : 0;"),
     Mutant("of ranges in a list the first one around a key holds", MAPS,
