@@ -75,8 +75,8 @@ class MapTables(MapQuestions[E, V]):
         return made  # type: ignore[no-any-return]
 
     def to_frame(self) -> Any:
-        """A data frame of pandas with the columns `start`, `end` and `value`, which makes the map again. Times with a zone are in UTC. If
-        the last range has no end, its end is None.
+        """A data frame of pandas with the columns `start`, `end` and `value`, which makes the map again. Times with a zone are in UTC.
+        Those without are pandas', of which `astype("datetime")` makes Python's. If the last range has no end, its end is None.
 
         Cost: goes over all ranges.
 
@@ -89,8 +89,8 @@ class MapTables(MapQuestions[E, V]):
         return frame_of(codes, kind, value=values)
 
     def to_series(self) -> Any:
-        """A series of pandas with the values, by an index of `intervals()`, which makes the map again. If a range has no end, that is a
-        ValueError.
+        """A series of pandas with the values, by an index of `intervals()`, which makes the map again; of dates and times without a
+        zone, it makes one of pandas' times, and `astype` the map. If a range has no end, that is a ValueError.
 
         Cost: goes over all ranges.
 

@@ -60,8 +60,8 @@ class Tables(Questions[E]):
         return arrays_of(*self._now)
 
     def to_frame(self) -> Any:
-        """A data frame of pandas with the columns `start` and `end`, which makes the set again. Times with a zone are in UTC. If the last
-        range has no end, its end is None.
+        """A data frame of pandas with the columns `start` and `end`, which makes the set again. Times with a zone are in UTC. Those
+        without are pandas', of which `astype("datetime")` makes Python's. If the last range has no end, its end is None.
 
         Cost: goes over all ranges.
 
