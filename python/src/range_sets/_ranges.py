@@ -42,7 +42,12 @@ class AnyRangeSet(Fits[E], Moves[E], Tables[E]):
     __slots__ = ()
     __module__ = "range_sets"
 
-    # Pairs and sets by themselves, of which checkers find the type of the elements also if they know less of them.
+    # A set of another kind has other elements. Pairs and sets by themselves, of which checkers find the type of the elements also if they
+    # know less of them.
+
+    @overload
+    def __new__(cls, source: AnyRangeSet[Any], *, unsigned: bool | None = None, kind: type[E] | str, **attributes: Never) -> Self:
+        ...
 
     @overload
     def __new__(
