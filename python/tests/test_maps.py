@@ -8,8 +8,10 @@ import random
 import signal
 import sys
 import threading
+import time
 import tracemalloc
 import unittest
+import warnings
 import weakref
 from array import array
 from datetime import date, datetime, timezone
@@ -763,6 +765,11 @@ class Identity(unittest.TestCase):
             (Watched("a"), Hashed("a"), False),
             ({}, {}, True),
             (None, None, True),
+            *((sign * 2**bits, sign * int(str(2**bits)), True) for bits in (0, 9, 29, 30, 62, 64) for sign in (1, -1)),
+            *((2**bits, other, False) for bits in (9, 29, 30, 60, 64) for other in (-(2**bits), 2**bits + 1, 2**bits + 2**30)),
+            (0.0, -0.0, True),
+            (1.5, 2.5, False),
+            *((f"a{end}", "a" + other, end == other) for end in ("", "b", "é", "Ω", "😀") for other in ("", "b", "c", "é", "ê", "Ω", "😀")),
         ]:
             with self.subTest(first=first, second=second):
                 made = RangeMap([((0, 5), first)])
@@ -770,6 +777,26 @@ class Identity(unittest.TestCase):
                 self.assertEqual(len(made), 1 if is_one else 2)
                 self.assertIs(made[0], first)
                 self.assertEqual(made.find(second), RangeSet([(0, 9) if is_one else (5, 9)]))
+
+    def test_find_takes_little_more_than_a_count_of_a_list(self):
+        for of in (int, float):
+            values = [of(1000 + it) for it in range(30000)]
+            made = RangeMap([((3 * it, 3 * it + 2), value) for it, value in enumerate(values)])
+            taken = {made.find: [], values.count: []}
+            for call in 25 * [*taken]:
+                began = time.process_time()
+                call(of(1500))
+                taken[call].append(time.process_time() - began)
+            found, counted = map(min, taken.values())
+            self.assertLess(found, 2 * counted)
+
+    @unittest.skipUnless(hasattr(_testcapi, "unicode_legacy_string"), "this Python has no texts that aren't laid out yet")
+    def test_a_text_that_is_not_laid_out_yet(self):
+        with warnings.catch_warnings():
+            warnings.simplefilter("ignore")
+            first, second = map(_testcapi.unicode_legacy_string, ("abc", "abd"))
+        made = RangeMap([((0, 5), first), ((5, 9), second), ((9, 12), "abd")])
+        self.assertEqual((len(made), made.find("abc"), made.find("abd")), (2, RangeSet([(0, 5)]), RangeSet([(5, 12)])))
 
     def test_an_equality_that_raises_leaves_the_map_as_it_was(self):
         # A value without a hash makes a TypeError too.

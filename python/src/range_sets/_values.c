@@ -74,10 +74,32 @@ static bool make_room(Values *self)
     return true;
 }
 
+#if PY_VERSION_HEX < 0x030C0000
+/* As later Pythons have them. */
+#define PyUnstable_Long_IsCompact(it) (Py_ABS(Py_SIZE(it)) <= 1)
+#define PyUnstable_Long_CompactValue(it) (Py_SIZE(it) * (Py_ssize_t)(it)->ob_digit[0])
+#endif
+
+/* Whether two objects of one type are equal, or UNKNOWN unless they are floats, texts or small whole numbers, for which no call is made. */
+static int are_equal_at_sight(PyObject *a, PyObject *b)
+{
+    if (PyFloat_CheckExact(a)) return PyFloat_AS_DOUBLE(a) == PyFloat_AS_DOUBLE(b);
+    /* Before 3.12 a text that nothing has read yet may have no kind. */
+    if (PyUnicode_CheckExact(a) && PyUnicode_KIND(a) != 0 && PyUnicode_KIND(b) != 0) {
+        Py_ssize_t len = PyUnicode_GET_LENGTH(a), kind = PyUnicode_KIND(a);
+        return PyUnicode_GET_LENGTH(b) == len && PyUnicode_KIND(b) == kind && memcmp(PyUnicode_DATA(a), PyUnicode_DATA(b), len * kind) == 0;
+    }
+    PyLongObject *m = (PyLongObject *)a, *n = (PyLongObject *)b;
+    if (!PyLong_CheckExact(a) || !PyUnstable_Long_IsCompact(m) || !PyUnstable_Long_IsCompact(n)) return UNKNOWN;
+    return PyUnstable_Long_CompactValue(m) == PyUnstable_Long_CompactValue(n);
+}
+
 /* Only what has a truth of its own is an answer: an array has one for each element, if the two fit at all. */
 int are_one(PyObject *a, PyObject *b)
 {
     if (a == b || !Py_IS_TYPE(a, Py_TYPE(b))) return a == b;
+    int at_sight = are_equal_at_sight(a, b);
+    if (at_sight != UNKNOWN) return at_sight;
     Py_INCREF(a);
     Py_INCREF(b);
     PyObject *answer = PyObject_RichCompare(a, b, Py_EQ);

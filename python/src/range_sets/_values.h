@@ -7,8 +7,9 @@
 
 #include "_lists.h"
 
-/* The number of no value. */
+/* The number of no value, and the answer that isn't known yet. */
 #define NONE SIZE_MAX
+enum { UNKNOWN = 2 };
 
 /* Numbers by their hashes, of which some may be equal. No more than half of the slots are used, and these are a power of two, or none
  * yet. A number lies in the first free slot from the place of its hash on. */

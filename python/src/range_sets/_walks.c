@@ -10,8 +10,6 @@ typedef struct {
     size_t room;
 } Sought;
 
-enum { UNKNOWN = 2 };
-
 /* Compares the value of a number, whose code may change the map; -1 where it raises an error, or there is no memory. */
 static int ask(Steps *self, Sought *sought, size_t number)
 {
