@@ -287,6 +287,19 @@ class Rows(unittest.TestCase):
                 call()
         self.assertFalse(made == RangeSet([(Decimal(1), Decimal(2))]))
 
+    def test_what_is_not_equal_to_itself(self):
+        nan, made = float("nan"), RangeSet([(0.5, 1)], kind="ordered")
+        for call in (
+            lambda: RangeSet([(nan, 1.0)], kind="ordered"),
+            lambda: RangeSet([(0.0, nan)], kind="ordered"),
+            lambda: RangeSet((nan, None), kind="ordered"),
+            lambda: made.union([(0.5, nan)]),
+            lambda: made.covers(nan, 1),
+            lambda: nan in made,
+            lambda: RangeMap([((nan, 1.0), "a")], kind="ordered"),
+        ):
+            self.assertRaisesRegex(ValueError, "nan isn't equal to itself", call)
+
     def test_addresses(self):
         at, most = IPv6Address, 2**128 - 1
         made = RangeSet([IPv6Network("2001:db8::/32"), ip_network("::/127"), (at(5), at(9))])

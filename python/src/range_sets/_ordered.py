@@ -36,6 +36,8 @@ class Ordered(Kind):
 
     def key(self, value: Any) -> Any:
         """What stands for a value."""
+        if value != value:
+            raise ValueError(f"{value!r} isn't equal to itself: it is in no order, and no element of a set")
         return value
 
     # ---- Numbers ----
