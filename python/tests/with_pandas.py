@@ -7,6 +7,7 @@ import tempfile
 import unittest
 from collections import Counter
 from datetime import date, datetime, timedelta, timezone
+from ipaddress import IPv4Address, IPv6Address
 from pathlib import Path
 from unittest import mock
 from zoneinfo import ZoneInfo
@@ -239,6 +240,17 @@ class Frames(unittest.TestCase):
             self.assertEqual(RangeMap.depth(frame), RangeMap.depth(zip(frame["start"], frame["end"])))
         for asked in (times.dt.date, times.to_numpy().astype("M8[D]")):
             self.assertEqual(days.contains(asked).tolist(), [True, False])
+
+    def test_none_is_no_member(self):
+        day, address = date(2026, 5, 1), IPv4Address("10.0.0.1")
+        for element in (0.5, "b", day, address, IPv6Address("::1")):
+            made, asked = RangeSet([(element, None)]), pandas.Series([element, None], dtype=object)
+            with self.subTest(element=element):
+                self.assertEqual((made.contains(asked).tolist(), made.contains([None, element]).tolist()), ([True, False], [False, True]))
+                self.assertEqual(made.range_at(asked)[0].mask.tolist(), [False, True])
+                self.assertEqual(RangeMap([(made[0], "a")]).get(asked).tolist(), ["a", None])
+                self.assertRaises(TypeError, made.overlaps, asked, [element] * 2)
+                self.assertRaises(TypeError, made.rank, asked)
 
     def test_elements_that_are_missing(self):
         """They are no members; calls that count raise an error."""

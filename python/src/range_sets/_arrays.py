@@ -15,9 +15,9 @@ if TYPE_CHECKING:
     from typing import Any
 
 
-def codes_of_each(kind: Kind, values: Any) -> tuple[Any, Any]:
-    """The numbers of the elements in an array of numpy, or in what it makes one of; and which are no elements, as NaT, NaN, NA, and whole
-    numbers out of range. The numbers of these mean nothing."""
+def codes_of_each(kind: Kind, values: Any, takes_none: bool) -> tuple[Any, Any]:
+    """The numbers of the elements in an array of numpy, or in what it makes one of; and which are no elements, as NaT, NaN, NA, whole
+    numbers out of range, and None if it takes that, but of whole numbers. The numbers of these mean nothing."""
     import numpy
 
     if kind.is_ordered:
@@ -48,7 +48,7 @@ def codes_of_each(kind: Kind, values: Any) -> tuple[Any, Any]:
     if found.dtype.kind in "mM" and any(isinstance(it, int) for it in elements):
         raise kind.array_type_error(found.dtype)
     code = kind.code if kind.is_whole or kind.is_ordered else kind.number
-    codes = [None if _is_gone(it) else code(it) for it in elements]
+    codes = [None if (it is None and takes_none and not kind.is_whole) or _is_gone(it) else code(it) for it in elements]
     none = [it is None or not kind.least <= it <= kind.most for it in codes]
     numbers = [0 if is_none else it for it, is_none in zip(codes, none)]
     return numpy.array(numbers, dtype=typecode_of(kind.unsigned)).reshape(found.shape), numpy.array(none, dtype=bool).reshape(found.shape)
@@ -98,12 +98,12 @@ def contains_each(now: Now, values: Any) -> Any:
     return _each(_core.contains_each, now, codes, "?") & ~gone
 
 
-def asked_of(now: Now, values: Any) -> tuple[Any, Any]:
+def asked_of(now: Now, values: Any, takes_none: bool = True) -> tuple[Any, Any]:
     """What `codes_of_each` returns for the kind of a set. One of no kind has no element, of whatever kind these are."""
     import numpy
 
     if now[1] is not NO_KIND:
-        return codes_of_each(now[1], values)
+        return codes_of_each(now[1], values, takes_none)
     found = numpy.asarray(values)
     kind_of_first(found.reshape(-1)[:1].tolist())
     return numpy.zeros(found.shape, dtype="i8"), numpy.zeros(found.shape, dtype=bool)
@@ -119,7 +119,8 @@ def _ranks(now: Now, *columns: Any) -> tuple[Any, Any]:
     """How many members are below each element, with a last dimension for the columns; and which aren't elements."""
     import numpy
 
-    codes, gone = (numpy.stack(it, axis=-1) for it in zip(*(asked_of(now, it) for it in columns)))
+    # None may be meant as no end.
+    codes, gone = (numpy.stack(it, axis=-1) for it in zip(*(asked_of(now, it, takes_none=False) for it in columns)))
     return _each(_core.ranks, now, codes, "u8"), gone
 
 

@@ -44,7 +44,8 @@ class Questions(Operators[E]):
             raise asked_error(value, kind, error) from None
 
     def contains(self, values: Any) -> Any:
-        """For each element of an array whether it is a member, as a numpy array of bools. NaT, NaN and NA are none.
+        """For each element of an array whether it is a member, as a numpy array of bools. NaT, NaN and NA are none, and None unless these are whole
+        numbers.
 
         Cost: a search for each, and a short one if they are in order.
 
