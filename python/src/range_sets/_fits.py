@@ -151,11 +151,12 @@ class Fits(Questions[E]):
                 kind.checked(before)
             elif kind.most < most(kind.unsigned):
                 before = kind.most + 1
-        counts = [count] if align is None else [count, multiple]
+        # Of greater ones zero alone is a multiple, as of this one but for the greatest number.
+        counts = [count] if align is None else [count, min(multiple, 2**64 - 1)]
         if count < 2**64:
             found = call_from(asked, first, *counts) if before is None else call(asked, first, before, *counts)
         else:
             # No count that the extension takes is of all numbers.
             is_whole = count == 2**64 and before is None and first == kind.least and first % multiple == 0
             found = first if is_whole and not (~self if is_run else self) else None
-        return None if found is None else kind.value(found)
+        return None if found is None or found % multiple else kind.value(found)
