@@ -334,6 +334,16 @@ class Kinds(unittest.TestCase):
         owners[IPv4Network("255.0.0.0/8")] = "last"
         self.assertEqual(owners.range_at(IPv4Address("255.255.255.255")), ((IPv4Address("255.0.0.0"), None), "last"))
 
+    def test_texts_of_addresses(self):
+        for kind, texts in (
+            ("IPv4Address", ["10.0.0.0/8", "9.0.0.1-10.0.0.3", "::/0"]),
+            ("IPv6Address", ["2::/16", "::1-2::", "10.0.0.0/8"]),
+        ):
+            made = RangeMap(zip(texts[:2], "ab"), kind=kind)
+            self.assertEqual((made.find("b"), made.domain()), (RangeSet(texts[1:2], kind=kind), RangeSet(texts[:2], kind=kind)))
+            self.assertRaises(ValueError, made.update, {texts[2]: 1})
+            self.assertRaises(TypeError, RangeMap, {texts[0]: 1}, kind="int")
+
 
 class BesideCells:
     """A map beside a list that has a cell for each of its keys: the place of the key's value in a pool, or None."""

@@ -13,14 +13,14 @@ from ._core import Steps
 from ._depths import ends_of_sets
 from ._kept import MANY, SHOWN
 from ._kind import NO_KIND, SIGNED, Kind
-from ._kinds import are_alike, are_of_one, given_kind, kind_of_pickle
+from ._kinds import ADDRESSES, are_alike, are_of_one, given_kind, kind_of_pickle
 from ._map_columns import Columns, columns_of_map
 from ._map_questions import NOTHING, numbered_with
 from ._map_tables import MapTables
 from ._numbers import in_this_order, least, packed
 from ._ordered import ORDERED
 from ._sets import RangeSet
-from ._sources import items_of
+from ._sources import gather, items_of
 from ._typing import TYPE_CHECKING, E, V
 
 if not TYPE_CHECKING:
@@ -224,7 +224,8 @@ class RangeMap(MapTables[E, V]):
             except (TypeError, ValueError) as error:
                 raise type(error)(f"expected a range and its value, as ((0, 5), 'a'), not {reprlib.repr(item)}") from None
             pair = isinstance(keys, (tuple, list)) and len(keys) == 2
-            ranges, kind = self._ranges(slice(*keys) if pair else keys, kind)
+            is_text = isinstance(keys, str) and isinstance(kind, ADDRESSES)
+            ranges, kind = gather([keys], kind) if is_text else self._ranges(slice(*keys) if pair else keys, kind)
             # What sorts is numbered when all is read.
             read = [*kind.values(ranges)] if kind.is_ordered else [*ranges]
             ends += [*read, *[none if kind.is_ordered else least(kind.unsigned)] * (len(ranges) % 2)]
