@@ -798,7 +798,7 @@ class Identity(unittest.TestCase):
                 call(of(1500))
                 taken[call].append(time.process_time() - began)
             found, counted = map(min, taken.values())
-            self.assertLess(found, 2 * counted)
+            self.assertLess(found, 3 * counted)
 
     @unittest.skipUnless(hasattr(_testcapi, "unicode_legacy_string"), "this Python has no texts that aren't laid out yet")
     def test_a_text_that_is_not_laid_out_yet(self):
