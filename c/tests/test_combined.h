@@ -39,7 +39,7 @@ static void TEST(chunked_beside)(SET a, SET b)
 {
     const SET nothing = {NULL, 0};
     NUMBER wanted[2 * POINTS + 2];
-    CHUNKED one, other, copy = {wanted}, none = {NULL};
+    CHUNKED one = {NULL}, other = {NULL}, copy = {wanted}, none = {NULL};
     SET result;
     unsigned keep;
     check(CALL(chunked_of)(a, &one) == RANGE_SET_DONE && CALL(chunked_of)(b, &other) == RANGE_SET_DONE, "beside: of lists");
